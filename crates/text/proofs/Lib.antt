@@ -1,0 +1,6 @@
+mod Cutting
+mod Rounding
+mod Runs
+mod Reading
+mod Scans
+pub mod Storing
