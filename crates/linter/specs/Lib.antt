@@ -1,0 +1,5 @@
+pub mod Writing
+pub mod Verdicts
+pub mod Lines
+pub mod Tallies
+pub mod Reports
