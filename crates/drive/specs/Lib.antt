@@ -1,0 +1,5 @@
+pub mod Axes
+pub mod Health
+pub mod Range
+pub mod Drive
+pub mod Laws

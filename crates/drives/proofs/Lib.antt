@@ -1,0 +1,5 @@
+mod Bounds
+mod Paces
+mod Codes
+mod Quotients
+mod Gears

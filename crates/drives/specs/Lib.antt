@@ -1,0 +1,4 @@
+pub mod Limits
+pub mod Counting
+pub mod Reporting
+pub mod Ratio

@@ -1,0 +1,4 @@
+pub mod Limits
+pub mod Motors
+pub mod Rules
+pub mod Banks
