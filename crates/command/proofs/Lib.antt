@@ -1,0 +1,5 @@
+pub mod Ends
+pub mod Fronts
+pub mod Turns
+pub mod Judging
+pub mod Rests

@@ -1,0 +1,9 @@
+pub mod Moves
+pub mod Runs
+pub mod Stances
+pub mod Folds
+pub mod Deeds
+pub mod Turns
+pub mod Calls
+pub mod Steps
+pub mod Faults
