@@ -65,8 +65,7 @@ fn read_level(rest: &[u8], at: usize) -> Result<Field, Refusal>
 fn judge_input(contact: Field, level: Field) -> Result<Setting, Refusal>
     ensures { λ r. ⌜ changed r ≡ judged contact level ⌝ }
 {
-    let bit = judge_whole(contact, 0, 15)?;
-    let level = judge_whole(level, 0, 1)?;
+    let (bit, level) = (judge_whole(contact, 0, 15)?, judge_whole(level, 0, 1)?);
     Ok(Setting::KillInput {
         bit: bit as u8,
         level: level >= 1,

@@ -6,7 +6,7 @@ use mathlib.Core.List.{List, [], _∷_}
 use Prim.Native.Nat.{ℕ, zero, suc, _<_}
 use native.Mathlib.Nat.{not-suc-le-zero, le-of-suc-le-suc, le-refl}
 use native.Mathlib.Omega.{arith}
-use lib.IntN.{ℤ}
+use lib.IntN.{ℤ, pos}
 use lib.Dec.{eqb, leb}
 use lib.ListN.{length, getD, set, length-set, length-map, length-replicate, getD-replicate}
 use Rattle.std.specs.declared.option.Option.{Option}
@@ -18,6 +18,7 @@ use Rattle.std.proofs.shelf.Lists.{getD-map}
 use Rattle.std.proofs.shelf.Signed.{ints}
 use Rattle.std.proofs.shelf.Tests.{or-parts}
 use Rattle.contacts.specs.declared.kill.KillInputs.{KillInputs}
+use Rattle.contacts.specs.Words.{contact-of}
 use Rattle.contacts.specs.Kills.{hit, with-kill, no-kills}
 use Rattle.drive.specs.declared.axis.Axis.{Axis}
 use Rattle.drive.specs.declared.axis.Axis.the-variants.{X}
@@ -292,7 +293,7 @@ module _ {S : Type 0} (o : Ops S) (keeps : Keeps o) (x : ℕ) (inside : x < axes
     applied (select a) = reset _ (p .machine .posts) refl refl
     applied (units-on f) = reset _ (p .machine .posts) refl refl
     applied units-off = reset _ (p .machine .posts) refl refl
-    applied (kill-input b l) = new-kills (λ k. with-kill k b l)
+    applied (kill-input b l) = new-kills (λ k. with-kill k (contact-of (pos b)) l)
     applied no-kill-inputs = new-kills (λ k. no-kills)
 
     kept-set : (r : Result Change Unread) → Goes w (parked p) quiet w (setting-by p r .now)

@@ -12,6 +12,7 @@ use Rattle.std.specs.declared.result.Result.the-variants.{Ok, Err}
 use Rattle.text.specs.Decimals.{Fixed}
 use Rattle.text.specs.Writing.{decimal}
 use Rattle.contacts.specs.declared.kill.KillInputs.{KillInputs}
+use Rattle.contacts.specs.Words.{contact-of}
 use Rattle.contacts.specs.Kills.{hit, with-kill, no-kills}
 use Rattle.drive.specs.declared.axis.Axis.{Axis}
 use Rattle.drive.specs.declared.axis.Axis.the-variants.{X}
@@ -126,7 +127,7 @@ abbrev pub apply : {S : Type 0} → Change → Parked S → Parked S
 apply (select a) p = with-setup p (record { settings = p .setup .settings; axis = a })
 apply (units-on f) p = with-setup p (units-set (p .setup) (Some f))
 apply units-off p = with-setup p (units-set (p .setup) None)
-apply (kill-input b l) p = kills-set p (λ k. with-kill k b l)
+apply (kill-input b l) p = kills-set p (λ k. with-kill k (contact-of (pos b)) l)
 apply no-kill-inputs p = kills-set p (λ k. no-kills)
 
 -- ---- placing

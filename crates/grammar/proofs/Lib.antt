@@ -1,0 +1,10 @@
+pub mod Fronts
+pub mod Scanning
+pub mod Judging
+pub mod Lists
+pub mod Shapes
+pub mod Rules
+pub mod Meanings
+pub mod Ports
+pub mod Addresses
+pub mod Showing

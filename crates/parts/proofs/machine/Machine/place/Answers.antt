@@ -1,0 +1,14 @@
+use Prim.Native.Nat.{_<_}
+use native.Mathlib.Omega.{arith}
+use borrow.Author.Needs.{needs}
+use lib.ListN.{length}
+use Rattle.std.proofs.shelf.Lists.{map-set, getD-map}
+use Rattle.model.specs.Machine.{blank}
+use Rattle.parts.specs.Views.{post-view}
+use Rattle.parts.proofs.machine.Machine.place.Needs as need
+
+pub returns : need.returns
+returns g c =
+    let lt : c .index .result < length (c .args .self .now .posts) = search needs in
+    let here = getD-map post-view (c .args .self .now .posts) (c .index .result) (c .index-self-index .result) blank lt in
+    grind (arith, map-set post-view)
