@@ -3,6 +3,7 @@ use mathlib.Core.List.{List, map}
 use mathlib.Core.Bool.{Bool}
 use Prim.Native.Nat.{ℕ}
 use lib.IntN.{ℤ}
+use lib.ListN.{getD, set}
 use Rattle.contacts.specs.declared.kill.KillInputs.{KillInputs}
 use Rattle.drive.specs.declared.health.Health.{Health}
 use Rattle.drive.specs.Drive.{Ops}
@@ -12,6 +13,7 @@ use Rattle.command.specs.Requests.{clears-on}
 use Rattle.model.specs.declared.row.Row.{Row}
 use Rattle.model.specs.Machine as M
 use Rattle.parts.specs.declared.post.Post.{Post}
+use Rattle.parts.specs.declared.posts.Posts.{Posts}
 use Rattle.parts.specs.declared.machine.Machine.{Machine}
 
 abbrev pub post-view : Post → M.Post
@@ -21,9 +23,19 @@ post-view p = record { queue = view (p .queue); kills = p .kills; killed = p .ki
 abbrev pub rekilled : M.Post → KillInputs → M.Post
 rekilled p k = record { queue = p .queue; kills = k; killed = p .killed }
 
+abbrev pub posts-view : Posts → List M.Post
+posts-view ps = map post-view (ps .all)
+
+-- The post of axis `k`, and the posts with that one changed.
+abbrev pub of : ℕ → List M.Post → M.Post
+of k ps = getD ps k M.blank
+
+abbrev pub with : ℕ → List M.Post → (M.Post → M.Post) → List M.Post
+with k ps f = set ps k (f (of k ps))
+
 module _ {D S : Type 0} (state : D → S) where
   abbrev pub machine-view : Machine D → M.Machine S
-  machine-view m = record { drive = state (m .drive); posts = map post-view (m .posts); output = m .output }
+  machine-view m = record { drive = state (m .drive); posts = posts-view (m .posts); output = m .output }
 
   -- The machine after a part of a call, and what the part told.
   abbrev pub part : {R : Type 0} → Machine D → R → M.Part S R

@@ -1,7 +1,7 @@
-//! What entries act on, and one axis's part of each call.
+//! What entries act on, and what each call makes of it, one axis after the other.
 mod machine;
 mod post;
+mod posts;
 mod rows;
 
 pub use machine::Machine;
-pub use post::Post;

@@ -1,76 +1,40 @@
-//! The drive, the axes and the output word, and one axis's part of each call.
+//! What entries act on: the drive, the axes and the output word.
 ghost use mathlib.Core.Path.{_≡_};
-ghost use mathlib.Core.Bool.{true, false};
-ghost use Prim.Native.Nat.{ℕ};
 ghost use mathlib.Core.List.{map};
-ghost use lib.ListN.{length, getD, replicate};
+ghost use lib.ListN.{replicate};
 ghost use Rattle.drive.specs.Axes.{axes, index};
 ghost use Rattle.drive.specs.Drive.{all-halted};
-ghost use Rattle.drive.specs.Range.{InRange};
-ghost use Rattle.queue.specs.Views.{free};
 ghost use Rattle.model.specs.Controller.{armed};
-ghost use Rattle.model.specs.Machine.{blank, at, clear, judged};
-ghost use Rattle.parts.specs.Views.{post-view, machine-view, part, kills-put, advanced};
+ghost use Rattle.model.specs.Machine.{blank, at, clear};
+ghost use Rattle.parts.specs.Views.{post-view, posts-view, machine-view, part, kills-put, advanced};
 
 mod all;
 mod command;
+mod questions;
+mod sample;
 mod turn;
 
 use crate::post::Post;
-use crate::rows;
+use crate::posts::Posts;
 use contacts::kill::KillInputs;
-use drive::axis::AXES;
 use drive::axis::Axis;
 use drive::health::Health;
 use drive::motion::Drive;
 use drive::motion::halt_all;
-use model::row::Row;
 
+/// The output word has a bit for each contact that BH and BL drive.
 #[derive(Drop)]
 pub struct Machine<D> {
     drive: D,
-    posts: [Post; AXES],
+    posts: Posts,
     output: u16,
-}
-
-/// The axis's own of a post for each axis.
-fn post_of(posts: &[Post], axis: Axis) -> &Post
-    requires { ⌜ length (now posts) ≡ axes ⌝ }
-    ensures { λ r. ⌜ post-view (now r) ≡ getD (map post-view (now (posts .entry))) (index axis) blank ⌝ }
-{
-    &posts[axis.index()]
-}
-
-/// A new post for each axis.
-fn new_posts() -> [Post; AXES]
-    ensures { λ r. ⌜ map post-view r ≡ replicate axes blank ⌝ }
-{
-    [
-        Post::new(),
-        Post::new(),
-        Post::new(),
-        Post::new(),
-        Post::new(),
-        Post::new(),
-        Post::new(),
-        Post::new(),
-    ]
-}
-
-/// Arms each axis under the word.
-fn arm_all(posts: &mut [Post], word: u16)
-    ensures { λ _. ⌜ map post-view (now (posts .exit)) ≡ map (armed word) (map post-view (now (posts .entry))) ⌝ }
-{
-    for post in posts.iter_mut() {
-        post.arm(word);
-    }
 }
 
 impl<D: Drive> Machine<D> {
     fn post(&self, axis: Axis) -> &Post
         ensures { λ r. ⌜ post-view (now r) ≡ at (index axis) (machine-view (D·Drive .state) (now (self .entry))) ⌝ }
     {
-        post_of(&self.posts, axis)
+        self.posts.of(axis)
     }
 
     /// Over a drive: every axis is halted, and has nothing of its own.
@@ -81,7 +45,7 @@ impl<D: Drive> Machine<D> {
         halt_all(&mut drive);
         Machine {
             drive,
-            posts: new_posts(),
+            posts: Posts::new(),
             output: 0,
         }
     }
@@ -100,22 +64,16 @@ impl<D: Drive> Machine<D> {
 
     /// For arming under a word: each axis is armed, and no output bit is 1.
     pub fn arm(&mut self, word: u16)
-        ensures { λ _. ⌜ machine-view (D·Drive .state) (now (self .exit)) ≡ record { drive = D·Drive .state (now (self .entry) .drive); posts = map (armed word) (map post-view (now (self .entry) .posts)); output = 0 } ⌝ }
+        ensures { λ _. ⌜ machine-view (D·Drive .state) (now (self .exit)) ≡ record { drive = D·Drive .state (now (self .entry) .drive); posts = map (armed word) (posts-view (now (self .entry) .posts)); output = 0 } ⌝ }
     {
-        arm_all(&mut self.posts, word);
+        self.posts.arm(word);
         self.output = 0;
-    }
-
-    pub fn kills(&self, axis: Axis) -> KillInputs
-        ensures { λ r. ⌜ r ≡ at (index axis) (machine-view (D·Drive .state) (now (self .entry))) .kills ⌝ }
-    {
-        self.post(axis).kills()
     }
 
     pub fn set_kills(&mut self, axis: Axis, kills: KillInputs)
         ensures { λ _. ⌜ machine-view (D·Drive .state) (now (self .exit)) ≡ kills-put (index axis) (machine-view (D·Drive .state) (now (self .entry))) kills ⌝ }
     {
-        self.posts[axis.index()].set_kills(kills);
+        self.posts.set_kills(axis, kills);
     }
 
     /// The drive advances once.
@@ -125,51 +83,14 @@ impl<D: Drive> Machine<D> {
         self.drive.advance(readings, health);
     }
 
-    pub fn position(&self, axis: Axis) -> i64
-        ensures value { λ r. ⌜ r ≡ D·Drive .ops .position (machine-view (D·Drive .state) (now (self .entry)) .drive) (index axis) ⌝ }
-        ensures range { λ r. ⌜ InRange r ⌝ }
-    {
-        self.drive.position(axis)
-    }
-
-    pub fn free_places(&self, axis: Axis) -> usize
-        ensures { λ r. ⌜ r ≡ free (at (index axis) (machine-view (D·Drive .state) (now (self .entry))) .queue) ⌝ }
-    {
-        self.post(axis).free_places()
-    }
-
-    pub fn output(&self) -> u16
-        ensures { λ r. ⌜ r ≡ machine-view (D·Drive .state) (now (self .entry)) .output ⌝ }
-    {
-        self.output
-    }
-
     /// Clears the axis, and halts it where `halt` says so; tells how many entries were dropped.
-    pub fn clear(&mut self, axis: Axis, halt: bool) -> usize
+    fn clear(&mut self, axis: Axis, halt: bool) -> usize
         ensures { λ r. ⌜ part (D·Drive .state) (now (self .exit)) r ≡ clear (D·Drive .ops) halt (index axis) (machine-view (D·Drive .state) (now (self .entry))) ⌝ }
     {
-        let dropped = self.posts[axis.index()].clear();
+        let dropped = self.posts.clear(axis);
         if halt {
             self.drive.halt(axis);
         }
         dropped
-    }
-
-    /// The sampled word for one axis: it is killed, is killed no longer, or neither.
-    pub fn judge(&mut self, axis: Axis, word: u16) -> Row
-        ensures { λ r. ⌜ part (D·Drive .state) (now (self .exit)) r ≡ judged (D·Drive .ops) word (index axis) (machine-view (D·Drive .state) (now (self .entry))) ⌝ }
-    {
-        match (self.post(axis).is_killed(), self.post(axis).is_hit(word)) {
-            (false, true) => {
-                let dropped = self.posts[axis.index()].kill();
-                self.drive.halt(axis);
-                rows::by_sample(dropped)
-            }
-            (true, false) => {
-                self.posts[axis.index()].free();
-                rows::NOTHING
-            }
-            (false, false) | (true, true) => rows::NOTHING,
-        }
     }
 }

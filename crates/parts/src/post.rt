@@ -46,8 +46,9 @@ impl Post {
         ensures says { λ r. ⌜ r ≡ length (waiting (post-view (now (self .entry)))) ⌝ }
         ensures does { λ _. ⌜ post-view (now (self .exit)) ≡ marked true (emptied (post-view (now (self .entry)))) ⌝ }
     {
+        let dropped = self.clear();
         self.killed = true;
-        self.queue.clear()
+        dropped
     }
 
     /// Killed no longer.

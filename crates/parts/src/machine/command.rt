@@ -51,18 +51,18 @@ impl Check {
 
 impl<D: Drive> Machine<D> {
     /// Places the batch, if there is one and it finds room.
-    pub fn place(&mut self, axis: Axis, batch: Option<Batch>) -> Row
+    pub(super) fn place(&mut self, axis: Axis, batch: Option<Batch>) -> Row
         ensures { λ r. ⌜ part (D·Drive .state) (now (self .exit)) r ≡ place (D·Drive .ops) batch (index axis) (machine-view (D·Drive .state) (now (self .entry))) ⌝ }
     {
         let Some(batch) = batch else {
             return rows::NOTHING;
         };
-        self.posts[axis.index()].place(batch);
+        self.posts.place(axis, batch);
         rows::accepted(batch.len())
     }
 
     /// Clears the axis where `named` says so, and halts it then where `halt` does.
-    pub fn clear_if(&mut self, axis: Axis, named: bool, halt: bool) -> Row
+    pub(super) fn clear_if(&mut self, axis: Axis, named: bool, halt: bool) -> Row
         ensures { λ r. ⌜ part (D·Drive .state) (now (self .exit)) r ≡ clear-if (D·Drive .ops) named halt (index axis) (machine-view (D·Drive .state) (now (self .entry))) ⌝ }
     {
         if named {

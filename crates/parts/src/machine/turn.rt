@@ -64,7 +64,7 @@ impl<D: Drive> Machine<D> {
         ensures { λ r. ⌜ part (D·Drive .state) (now (self .exit)) r ≡ perform (D·Drive .ops) (index axis) (machine-view (D·Drive .state) (now (self .entry))) (runs (head .entry)) ⌝ }
     {
         let plan = self.plan_after(axis, head.entry);
-        self.posts[axis.index()].step(plan);
+        self.posts.step(axis, plan);
         self.output = output_after(self.output, head.entry);
         rows::executed(head)
     }
@@ -76,7 +76,7 @@ impl<D: Drive> Machine<D> {
     {
         match self.drive.begin(axis, target) {
             Ok(()) => {
-                self.posts[axis.index()].step(None);
+                self.posts.step(axis, None);
                 rows::executed(head)
             }
             Err(Decline::Down) => rows::DRIVE_DOWN,
@@ -96,7 +96,7 @@ impl<D: Drive> Machine<D> {
     }
 
     /// Executes at most the head of the axis's queue, under the sampled word.
-    pub fn turn(&mut self, axis: Axis, word: u16) -> Row
+    pub(super) fn turn(&mut self, axis: Axis, word: u16) -> Row
         ensures { λ r. ⌜ part (D·Drive .state) (now (self .exit)) r ≡ turn (D·Drive .ops) word (index axis) (machine-view (D·Drive .state) (now (self .entry))) ⌝ }
     {
         if self.post(axis).is_killed() {

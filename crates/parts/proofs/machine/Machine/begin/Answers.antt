@@ -10,7 +10,7 @@ use Rattle.std.specs.declared.result.Result.the-variants.{Err}
 use Rattle.drive.specs.declared.motion.Decline.the-variants.{Reach}
 use Rattle.drive.specs.Axes.{index}
 use Rattle.model.specs.Machine.{blank, clear, perform}
-use Rattle.parts.specs.Views.{post-view, machine-view, part}
+use Rattle.parts.specs.Views.{machine-view, part}
 use Rattle.parts.proofs.Branches.{serial-of, overreached, replied, left}
 use Rattle.parts.proofs.machine.Machine.begin.Needs as need
 
@@ -21,10 +21,8 @@ returns-in-Ok g c =
     let same = toZ-ofZ _ _ (c .fits .target) in
     let told = c .in-Ok .ensures tt in
     let gone = left (g .D·Drive .ops) _ was _ (c .args .head .entry) _ _ same (told .answer) _ (told .after) in
-    let lt : c .index .result < length (c .args .self .now .posts) = search needs in
-    let here = getD-map post-view (c .args .self .now .posts) (c .index .result) (c .index-self-index .result) blank lt in
     let number = serial-of _ _ _ (c .pre) in
-    (grind (arith, map-set post-view)) ∙ replied (g .D·Drive .ops) _ was _ (c .args .head .entry) _ _ same (told .answer)
+    (grind arith) ∙ replied (g .D·Drive .ops) _ was _ (c .args .head .entry) _ _ same (told .answer)
 
 pub returns-in-Err-Down : need.returns-in-Err-Down
 unfolding perform

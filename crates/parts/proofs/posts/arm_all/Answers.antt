@@ -3,7 +3,7 @@ use native.Mathlib.Omega.{arith}
 use Rattle.model.specs.Controller.{armed}
 use Rattle.parts.specs.Views.{post-view}
 use Rattle.parts.proofs.Loops.{turned-more, turned-all}
-use Rattle.parts.proofs.machine.arm_all.Needs as need
+use Rattle.parts.proofs.posts.arm_all.Needs as need
 
 pub loop-post-again : need.loop-post-again
 loop-post-again c =

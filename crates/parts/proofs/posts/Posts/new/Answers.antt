@@ -1,6 +1,6 @@
 use mathlib.Core.List.{[], _∷_}
 use Rattle.drive.specs.Axes.{axes}
-use Rattle.parts.proofs.machine.new_posts.Needs as need
+use Rattle.parts.proofs.posts.Posts.new.Needs as need
 
 pub returns : need.returns
 unfolding axes

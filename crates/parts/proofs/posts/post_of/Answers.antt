@@ -5,7 +5,7 @@ use lib.ListN.{length}
 use Rattle.std.proofs.shelf.Lists.{getD-map}
 use Rattle.model.specs.Machine.{blank}
 use Rattle.parts.specs.Views.{post-view}
-use Rattle.parts.proofs.machine.post_of.Needs as need
+use Rattle.parts.proofs.posts.post_of.Needs as need
 
 pub returns : need.returns
 returns c =
