@@ -8,8 +8,10 @@ use lib.ListN.{length, getD, take, drop, set}
 use lib.Seq.{take-suc-set}
 use Rattle.std.proofs.shelf.Lists.{take-all, drop-all, append-nil, map-set, getD-map, length-map}
 use Rattle.std.proofs.shelf.Edits.{map-over-more}
+use Rattle.std.proofs.shelf.Ways.{tells}
 use Rattle.drive.specs.Axes.{axes}
 use Rattle.model.specs.Machine.{Machine, Part, each}
+use Rattle.parts.specs.Views.{if-taken}
 
 module _ {S R : Type 0} (f : ℕ → Machine S → Part S R) (start : Machine S) where
   -- The axes below `n` had their parts: `m` is the machine after these, and the front of `rs` what they told.
@@ -49,3 +51,11 @@ module _ {X Y : Type 0} (view : X → Y) (f : Y → Y) (xs : List X) where
   pub turned-all : (i : ℕ) (ys : List X) → length xs ≤ i → Turned i ys → map view ys ≡ map f (map view xs)
   turned-all i ys h done =
       done ∙ ap₂ (λ a b. map f a ++ b) (take-all i (map view xs) (simp length-map h)) (drop-all i (map view xs) (simp length-map h)) ∙ append-nil (map f (map view xs))
+
+-- A sheet with a row for each axis is taken, and any other is not.
+module _ {A : Type 0} (n : ℕ) (taken refused : A) where
+  pub is-taken : n ≡ axes → taken ≡ if-taken n taken refused
+  is-taken h = grind (arith, tells)
+
+  pub not-taken : (n ≡ axes → ⊥) → refused ≡ if-taken n taken refused
+  not-taken h = grind (arith, tells)

@@ -1,15 +1,21 @@
 -- The code's values as the model's. Assumes nothing.
 use mathlib.Core.List.{List, map}
-use mathlib.Core.Bool.{Bool}
+use mathlib.Core.Bool.{Bool, cond}
 use Prim.Native.Nat.{ℕ}
+use lib.Dec.{eqb}
 use lib.IntN.{ℤ}
 use lib.ListN.{getD, set}
+use Rattle.std.specs.declared.result.Result.{Result}
+use Rattle.std.specs.declared.result.Result.the-variants.{Ok, Err}
 use Rattle.contacts.specs.declared.kill.KillInputs.{KillInputs}
 use Rattle.drive.specs.declared.health.Health.{Health}
+use Rattle.drive.specs.Axes.{axes}
 use Rattle.drive.specs.Drive.{Ops}
 use Rattle.queue.specs.Views.{view}
 use Rattle.command.specs.declared.request.Request.{Request}
 use Rattle.command.specs.Requests.{clears-on}
+use Rattle.model.specs.declared.refusal.Refusal.{Refusal}
+use Rattle.model.specs.declared.refusal.Refusal.the-variants.{Sheet}
 use Rattle.model.specs.declared.row.Row.{Row}
 use Rattle.model.specs.Machine as M
 use Rattle.parts.specs.declared.post.Post.{Post}
@@ -52,3 +58,10 @@ kills-put k m kills = M.put k m (m .drive) (rekilled (M.at k m) kills)
 -- The machine once its drive has advanced.
 abbrev pub advanced : {S : Type 0} → Ops S → M.Machine S → List ℤ → Health → M.Machine S
 advanced o m readings h = record { drive = o .advanced (m .drive) readings h; posts = m .posts; output = m .output }
+
+-- A sheet of `n` rows is taken where there is one for each axis.
+abbrev pub if-taken : {A : Type 0} → ℕ → A → A → A
+if-taken n taken refused = cond (eqb n axes) taken refused
+
+abbrev pub sheet-taken : ℕ → Result (Unit {0}) Refusal
+sheet-taken n = if-taken n (Ok tt) (Err Sheet)
