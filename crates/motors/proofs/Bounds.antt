@@ -1,7 +1,7 @@
 -- The numbers that a drive holds are equal where their values are, and taking one to its limits leaves what is in them. Assumes nothing.
 use Rattle.std.proofs.Common.{◌≡◌, ℤ, inl, inr, arith, w64, to_z, of_z}
-use mathlib.Core.HLevel.{is_prop→PathP, ×_prop}
-use denote.Struct.Props.{≤ℤ_prop}
+use mathlib.Core.HLevel.{is_prop→PathP}
+use denote.Struct.Props.{props}
 use borrow.Author.Differences.{ints}
 use Rattle.std.proofs.lemmas.Int.{clamps}
 use Rattle.drive.specs.Range.{Within, InRange, Between, bottom, top}
@@ -10,7 +10,7 @@ use Rattle.motors.specs.Motors.{near}
 use Rattle.motors.specs.declared.parts.Ranged.{Ranged}
 
 pub same_ranged : (a b : Ranged) → a.value ≡ b.value → a ≡ b
-same_ranged a b e = λ i. record { value = e i; ok = is_prop→PathP (λ j. InRange (e j)) (λ j. ×_prop ≤ℤ_prop ≤ℤ_prop) a.ok b.ok i }
+same_ranged a b e = λ i. record { value = e i; ok = is_prop→PathP (λ j. InRange (e j)) (λ j. hlevel props) a.ok b.ok i }
 
 pub clamped_same : (low high z : ℤ) → Within low high z → clamped low high z ≡ z
 clamped_same low high z h = omega (arith, ints, clamps)

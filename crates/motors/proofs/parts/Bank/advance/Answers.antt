@@ -24,7 +24,7 @@ loop-axis-preserved g c =
     let at_i = c.index-i.ensures.value ∙ at in
     let made = simp to_z-of_z at c.moved.ensures in
     written_more (motor_next r b readings c.args.health) (absent_motor r) b.motors ms k _ _ h at_i inv
-    (made ∙ next_made r b readings c.args.health ms k _ _ _ _ _ c.loop-axis.self.full h at_i at (inv.1 k (omega arith)) c.reading.ensures c.is-up.ensures)
+    (made ∙ next_made r b readings c.args.health ms k _ _ _ _ _ c.loop-axis.self.full h at_i at (inv.1 k (omega arith)) c.reading.ensures c.is_up.ensures)
 
 pub returns : goal.returns
 returns g c =
