@@ -21,8 +21,8 @@ loop-i-preserved c =
     let q = simp to_z-of_z at c.near-in-loop-i-2.ensures in
     filled_more (counting_start c.args.rates.now c.args.starts.now) _ _ _ _ h c.loop-i.invariant (cc)
 
-pub invariant-of-result : goal.invariant-of-result
-invariant-of-result c = (c.loop-i.invariant.0, tt)
+pub invariant_of-result : goal.invariant_of-result
+invariant_of-result c = record { full = c.loop-i.invariant.0 }
 
 pub returns : goal.returns
 returns c =

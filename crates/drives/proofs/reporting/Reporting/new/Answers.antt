@@ -19,8 +19,8 @@ loop-i-preserved c =
     let p = simp to_z-of_z at c.near-in-loop-i.ensures in
     filled_more (reporting_start c.args.starts.now) _ _ _ _ h c.loop-i.invariant (cc)
 
-pub invariant-of-result : goal.invariant-of-result
-invariant-of-result c = (c.loop-i.invariant.0, tt)
+pub invariant_of-result : goal.invariant_of-result
+invariant_of-result c = record { full = c.loop-i.invariant.0 }
 
 pub returns : goal.returns
 returns c =

@@ -13,5 +13,5 @@ returns c =
     let k = index c.args.axis in
     let t = c.args.target in
     let back = to_z-of_z w64 t c.ranges.target in
-    let ok = admitted o b k t _ _ back c.admits.ensures c.in-ok-admits.was in
+    let ok = admitted o b k t _ _ back c.admits.ensures c.in_ok-admits.was in
     record { answer = sym ok; after = c.begin.ensures ∙ ap (o.begun b k) back ∙ sym (tried_taken o b k t ok) }
