@@ -7,6 +7,6 @@ pub returns-in-Some : goal.returns-in-Some
 unfolding bench_names
 returns-in-Some c = found c.args.text.now [] bench_rows [] _ refl c.in-Some.ensures
 
-pub returns-in-default : goal.returns-in-default
+pub returns-in_default : goal.returns-in_default
 unfolding bench_names
-returns-in-default c = missed c.args.text.now bench_rows _ c.in-default.ensures c.misfit.ensures
+returns-in_default c = missed c.args.text.now bench_rows _ c.in_default.ensures c.misfit.ensures

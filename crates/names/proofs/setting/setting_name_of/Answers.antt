@@ -9,9 +9,9 @@ returns-in-Some c = found c.args.text.now [] selections changes _ refl c.in-Some
 
 pub returns-in-Some-change : goal.returns-in-Some-change
 unfolding setting_names
-returns-in-Some-change c = found c.args.text.now selections changes [] _ c.in-default.ensures c.in-Some-change.ensures
+returns-in-Some-change c = found c.args.text.now selections changes [] _ c.in_default.ensures c.in-Some-change.ensures
 
-pub returns-in-default-change : goal.returns-in-default-change
+pub returns-in_default-change : goal.returns-in_default-change
 unfolding setting_names
-returns-in-default-change c =
-    missed c.args.text.now setting_names _ (neither c.args.text.now selections changes c.in-default.ensures c.in-default-change.ensures) c.misfit.ensures
+returns-in_default-change c =
+    missed c.args.text.now setting_names _ (neither c.args.text.now selections changes c.in_default.ensures c.in_default-change.ensures) c.misfit.ensures
