@@ -7,5 +7,5 @@ use Rattle.queue.proofs.axis.AxisQueue.first.Goals as goal
 pub returns : goal.returns
 returns c =
     let n = length-waiting c.args.self.now in
-    let k : in_range c.if-takes-argument.operand ≡ true = grind arith in
+    let k : in_range c.if-takes_argument.operand ≡ true = grind arith in
     record { is = grind arith; ranged = (grind (arith, ints), grind (arith, ints)); code = c.front-code.ensures }
