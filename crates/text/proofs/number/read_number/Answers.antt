@@ -7,6 +7,6 @@ pub returns : goal.returns
 unfolding reads
 returns c =
     record {
-      value = c.number.ensures.value ∙ (λ i. finished (c.is-negative.ensures i) (c.scan-number.ensures.value i));
-      bounds = wider _ _ c.number.result c.scan-number.ensures.within c.number.ensures.bounds;
+      value = c.number.ensures.value ∙ (λ i. finished (c.is_negative.ensures i) (c.scan_number.ensures.value i));
+      bounds = wider _ _ c.number.result c.scan_number.ensures.within c.number.ensures.bounds;
     }

@@ -4,9 +4,9 @@ use Rattle.text.specs.Numbers.{scanned}
 use Rattle.text.proofs.Scans.{ends, goes_on}
 use Rattle.text.proofs.number.scan_number.Goals as goal
 
-pub returns-in-default : goal.returns-in-default
-returns-in-default c =
-    let value = ends c.args.point c.loop-scan.scan c.args.text.now c.loop-scan-test.true c.in-default.ensures ∙ c.loop-scan.invariant.2 in
+pub returns-in_default : goal.returns-in_default
+returns-in_default c =
+    let value = ends c.args.point c.loop-scan.scan c.args.text.now c.loop-scan-test.true c.in_default.ensures ∙ c.loop-scan.invariant.2 in
     record { value = value; sound = c.loop-scan.invariant.0; within = c.loop-scan.invariant.1 }
 
 pub loop-scan-preserved : goal.loop-scan-preserved

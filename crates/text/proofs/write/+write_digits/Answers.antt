@@ -16,8 +16,8 @@ returns-then-n-lt10 t c =
 
 pub returns-else-n-lt10 : goal.returns-else-n-lt10
 returns-else-n-lt10 t c =
-    let told = c.write-digits-end.ensures in
-    let more = put_digit c.args.at c.args.n c.write-digits-end.result c.write-digits-end.new.out c.args.out.now c.if-n-lt10.false (omega arith) told.end told.out in
+    let told = c.write_digits-end.ensures in
+    let more = put_digit c.args.at c.args.n c.write_digits-end.result c.write_digits-end.new.out c.args.out.now c.if-n-lt10.false (omega arith) told.end told.out in
     record {
       end = more.0;
       out = c.store-else-n-lt10.ensures ∙ more.1;

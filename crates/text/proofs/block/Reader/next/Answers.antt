@@ -5,8 +5,8 @@ use Rattle.text.proofs.block.Reader.next.Goals as goal
 pub returns : goal.returns
 returns c =
     let before = c.args.self.now in
-    let piece = c.piece-from-piece.ensures.piece in
-    let offset = c.offset-after-self.ensures in
+    let piece = c.piece_from-piece.ensures.piece in
+    let offset = c.offset_after-self.ensures in
     record {
       block = refl;
       piece = piece;
