@@ -2,7 +2,8 @@
 use Rattle.std.specs.Prelude.{ℕ, ◌+◌, ◌^◌, Bool, cond, ◌&&◌, List, [], ◌∷◌, ℤ, ◌*ℤ◌, is_some, Some, None, Ok, Option, Result, int_le, slice_index_or}
 use Rattle.std.specs.Option.{ok_or}
 use Rattle.text.specs.declared.number.Number.{Number}
-use Rattle.text.specs.Decimals.{Fixed, in_range, decimal_of}
+use Rattle.text.specs.Decimals.{Fixed, decimal_of}
+use Rattle.text.specs.Decimals as decimals
 use Rattle.text.specs.Scaling.{nearest}
 use Rattle.drive.specs.Axes.{each}
 use Rattle.command.specs.declared.fields.Field.{Field}
@@ -20,7 +21,7 @@ abbrev pub pointed : List Tuning → ℕ → Bool
 pointed ts k = is_some (units_of ts k)
 
 abbrev pub in_range : ℤ → Option ℤ
-in_range z = cond (in_range z) (Some z) None
+in_range z = cond (decimals.in_range z) (Some z) None
 
 -- The counts of a number: the number itself, or with units on its product with the factor, rounded; none where either is out of range.
 abbrev pub counts : Option Fixed → Option Fixed → Option ℤ

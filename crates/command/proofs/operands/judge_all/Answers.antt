@@ -9,13 +9,13 @@ use Rattle.command.proofs.operands.judge_all.Goals as goal
 pub loop-i-init : goal.loop-i-init
 loop-i-init c = record { full = sym axes_is; whole = front_none _ }
 
-pub returns-in-err-operands : goal.returns-in-err-operands
-returns-in-err-operands c =
-    let p = err_from_is_err_and c.from-residual.result c.from-residual.ensures.1 in
-    rw (p.1, p.2) (refused c.loop-i.invariant (omega arith) (omega (arith, axes_is)) c.units-of.ensures _ c.in-err-operands.ensures)
+pub returns-in_err-operands : goal.returns-in_err-operands
+returns-in_err-operands c =
+    let p = err_from_is_err_and c.from_residual.result c.from_residual.ensures.1 in
+    rw (p.1, p.2) (refused c.loop-i.invariant (omega arith) (omega (arith, axes_is)) c.units_of.ensures _ c.in_err-operands.ensures)
 
 pub loop-i-preserved : goal.loop-i-preserved
-loop-i-preserved c = taken c.loop-i.invariant (omega arith) (omega (arith, axes_is)) c.units-of.ensures _ c.in-ok-operands.ensures
+loop-i-preserved c = taken c.loop-i.invariant (omega arith) (omega (arith, axes_is)) c.units_of.ensures _ c.in_ok-operands.ensures
 
 pub returns : goal.returns
 returns c = finished c.loop-i.invariant (omega arith) (omega (arith, axes_is))

@@ -3,10 +3,10 @@ use Rattle.std.proofs.lemmas.Bool.{cond-true, cond-false}
 use Rattle.command.specs.Reading.{read}
 use Rattle.command.proofs.reading.read.Goals as goal
 
-pub returns-then-has-length : goal.returns-then-has-length
+pub returns-then-has_length : goal.returns-then-has_length
 unfolding read
-returns-then-has-length c = c.read-on.ensures ∙ sym (cond-true _ _ _ (sym c.if-has-length.ensures))
+returns-then-has_length c = c.read_on.ensures ∙ sym (cond-true _ _ _ (sym c.if-has_length.ensures))
 
-pub returns-else-has-length : goal.returns-else-has-length
+pub returns-else-has_length : goal.returns-else-has_length
 unfolding read
-returns-else-has-length c = sym (cond-false _ _ _ (sym c.if-has-length.ensures))
+returns-else-has_length c = sym (cond-false _ _ _ (sym c.if-has_length.ensures))

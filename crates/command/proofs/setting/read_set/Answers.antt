@@ -2,5 +2,5 @@ use Rattle.names.specs.Setting.{setting_names}
 use Rattle.command.proofs.Rests.{rest_within}
 use Rattle.command.proofs.setting.read_set.Goals as goal
 
-pub overflow-sub-at : goal.overflow-sub-at
-overflow-sub-at c = rest_within setting_names _ _ _ c.in-Ok.ensures
+pub overflow_sub-at : goal.overflow_sub-at
+overflow_sub-at c = rest_within setting_names _ _ _ c.in-Ok.ensures
