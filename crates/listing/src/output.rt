@@ -28,7 +28,7 @@ fn print_row(out: &mut Vec<u8>, axis: Axis, row: Row) -> Result<(), AllocError>
     if kind == 0 {
         return Ok(());
     }
-    let numbers = format!(in out.allocator(); " {kind} {count} {serial} {code} {operand}\n")?;
+    let numbers = format!(in *out.allocator(); " {kind} {count} {serial} {code} {operand}\n")?;
     put(out, &[axis.letter()], numbers.as_bytes())
 }
 
@@ -81,7 +81,7 @@ fn print_refusal(out: &mut Vec<u8>, refusal: Refusal) -> Result<(), AllocError>
         place,
         axis,
     } = refusal.notice();
-    let line = format!(in out.allocator(); "! {number} {place} {axis}\n")?;
+    let line = format!(in *out.allocator(); "! {number} {place} {axis}\n")?;
     out.extend_from_slice(line.as_bytes())?;
     Ok(())
 }
@@ -89,7 +89,7 @@ fn print_refusal(out: &mut Vec<u8>, refusal: Refusal) -> Result<(), AllocError>
 fn print_count(out: &mut Vec<u8>, count: usize) -> Result<(), AllocError>
     ensures { Adds result out.old out.new (codes " " ++ digits count) }
 {
-    let word = format!(in out.allocator(); " {count}")?;
+    let word = format!(in *out.allocator(); " {count}")?;
     out.extend_from_slice(word.as_bytes())?;
     Ok(())
 }

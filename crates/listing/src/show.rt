@@ -26,7 +26,7 @@ fn print_axis(
     let i = axis.index();
     let position = positions[i];
     let target = targets[i];
-    let numbers = format!(in out.allocator(); " {position} {target}\n")?;
+    let numbers = format!(in *out.allocator(); " {position} {target}\n")?;
     put(out, &[axis.letter()], numbers.as_bytes())
 }
 

@@ -3,10 +3,10 @@ use Rattle.listing.specs.Hex.{digits}
 use Rattle.listing.proofs.Fronts.{at_places}
 use Rattle.listing.proofs.hex.read_byte.Goals as goal
 
-pub returns-in-err-two-digits : goal.returns-in-err-two-digits
-returns-in-err-two-digits c =
-    c.from-residual.ensures ∙ c.in-err-two-digits.ensures.value ∙ sym (at_places (digits 2) c.args.text.now 2 (search rules))
+pub returns-in_err-two_digits-in-len2 : goal.returns-in_err-two_digits-in-len2
+returns-in_err-two_digits-in-len2 c =
+    c.from_residual.ensures ∙ c.in_err-two_digits-in-len2.ensures.value ∙ sym (at_places (digits 2) c.args.text.now 2 (search rules))
 
-pub returns-in-ok-two-digits : goal.returns-in-ok-two-digits
-returns-in-ok-two-digits c =
-    c.in-ok-two-digits.ensures.value ∙ sym (at_places (digits 2) c.args.text.now 2 (search rules))
+pub returns-in_ok-two_digits-in-len2 : goal.returns-in_ok-two_digits-in-len2
+returns-in_ok-two_digits-in-len2 c =
+    c.in_ok-two_digits-in-len2.ensures.value ∙ sym (at_places (digits 2) c.args.text.now 2 (search rules))

@@ -10,10 +10,10 @@ returns-in-77 c = sym (at_front input c.args.line.now (codes "M ") (search rules
 pub returns-in-80 : goal.returns-in-80
 returns-in-80 c = sym (at_front input c.args.line.now (codes "P ") (search rules))
 
-pub returns-in-err-read-word : goal.returns-in-err-read-word
-returns-in-err-read-word c =
-    ap inputs c.from-residual.ensures ∙ ap (option_map sample) c.in-err-read-word.ensures ∙ sym (at_front input c.args.line.now (codes "S ") (search rules))
+pub returns-in_err-read_word-in-83 : goal.returns-in_err-read_word-in-83
+returns-in_err-read_word-in-83 c =
+    ap inputs c.from_residual.ensures ∙ ap (option_map sample) c.in_err-read_word-in-83.ensures ∙ sym (at_front input c.args.line.now (codes "S ") (search rules))
 
-pub returns-in-ok-read-word : goal.returns-in-ok-read-word
-returns-in-ok-read-word c =
-    ap (option_map sample) c.in-ok-read-word.ensures ∙ sym (at_front input c.args.line.now (codes "S ") (search rules))
+pub returns-in_ok-read_word-in-83 : goal.returns-in_ok-read_word-in-83
+returns-in_ok-read_word-in-83 c =
+    ap (option_map sample) c.in_ok-read_word-in-83.ensures ∙ sym (at_front input c.args.line.now (codes "S ") (search rules))

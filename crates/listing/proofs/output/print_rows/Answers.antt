@@ -8,4 +8,4 @@ use Rattle.listing.proofs.output.print_rows.Goals as goal
 
 pub loop-axis-preserved : goal.loop-axis-preserved
 loop-axis-preserved c =
-    item_added (flat_map (row_of c.args.sheet.now)) in_order _ X (vec_items c.loop-axis.out) _ c.loop-axis.axis-index c.loop-axis-test.true refl c.loop-axis.invariant c.in-ok-print-row-of.ensures
+    item_added (flat_map (row_of c.args.sheet.now)) in_order _ X (vec_items c.loop-axis.out) _ c.loop-axis.axis-index c.loop-axis-test.true refl c.loop-axis.invariant c.in_ok-print_row_of.ensures

@@ -4,4 +4,4 @@ use Rattle.listing.proofs.show.print_show.Goals as goal
 
 pub returns : goal.returns
 returns c =
-    adds_more c.print-axes.result c.args.out.now c.print-word.new.out c.print-axes.new.out (word_line c.args.word) (axis_lines c.args.positions.now c.args.targets.now) c.in-ok-print-word.ensures c.print-axes.ensures
+    adds_more c.print_axes.result c.args.out.now c.print_word.new.out c.print_axes.new.out (word_line c.args.word) (axis_lines c.args.positions.now c.args.targets.now) c.in_ok-print_word.ensures c.print_axes.ensures

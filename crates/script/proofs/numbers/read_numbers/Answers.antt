@@ -3,9 +3,9 @@ use Rattle.std.specs.Option.{option_map}
 use Rattle.script.proofs.Reading.{none_read, one_read, last_read}
 use Rattle.script.proofs.numbers.read_numbers.Goals as goal
 
-pub returns-in-default : goal.returns-in-default
-returns-in-default c =
-    none_read c.args.text.now c.loop-number.left.now (vec_items c.loop-number.numbers) c.loop-number.invariant _ _ c.split.ensures.value c.in-default.ensures
+pub returns-in_default : goal.returns-in_default
+returns-in_default c =
+    none_read c.args.text.now c.loop-number.left.now (vec_items c.loop-number.numbers) c.loop-number.invariant _ _ c.split.ensures.value c.in_default.ensures
 
 pub loop-number-preserved : goal.loop-number-preserved
 loop-number-preserved c =

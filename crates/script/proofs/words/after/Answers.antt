@@ -7,4 +7,4 @@ pub returns : goal.returns
 returns c =
     let line = c.args.line.now in
     let front = c.args.front.now in
-    stripped line front c.strip-prefix.result (strip_prefix_is Decides-eqb line front c.strip-prefix.result c.strip-prefix.ensures.cases)
+    stripped line front c.strip_prefix.result (strip_prefix_is Decides-eqb line front c.strip_prefix.result c.strip_prefix.ensures.cases)
