@@ -33,7 +33,7 @@ impl Draft {
         requires { Within self.old.tally (2 ^ 63) }
         ensures { OnOk result (so_far self.new ≡ with_text reading (so_far self.old) part.entry.bytes.now part.entry.offset finished) }
     {
-        let told = tell(self.lines.allocator(), reading, self.carried, part.bytes)?;
+        let told = tell(*self.lines.allocator(), reading, self.carried, part.bytes)?;
         put_line(&mut self.lines, part, told.words.as_str(), finished)?;
         self.tally = self.tally.count(told.known, finished);
         self.carried = told.after;

@@ -70,8 +70,8 @@ pub(crate) fn put_line(
 ) -> Result<(), AllocError>
     ensures { Adds result out.old out.new (line words.now part.entry.bytes.now part.entry.offset finished) }
 {
-    let head = head_of(out.allocator(), part.offset)?;
-    let tail = tail_of(out.allocator(), words, finished)?;
+    let head = head_of(*out.allocator(), part.offset)?;
+    let tail = tail_of(*out.allocator(), words, finished)?;
     out.extend_from_slice(head.as_bytes())?;
     show(out, part.bytes)?;
     out.extend_from_slice(tail.as_bytes())?;

@@ -36,7 +36,7 @@ fn rowed_by(reply: Result<(), Refusal>, sheet: Vec<Row>) -> Outcome
 {
     match reply {
         Ok(()) => {
-            let answer = Vec::new(sheet.allocator());
+            let answer = Vec::new(*sheet.allocator());
             Outcome::Told {
                 rows: sheet,
                 answer,

@@ -10,4 +10,4 @@ returns c =
     let draft = so_far c.loop-part.draft in
     let left = subst (λ b. pieces b c.loop-part.reader.offset ≡ []) now.same c.in-End.ensures.left in
     let whole : ended draft ≡ reported c.args.reading c.args.block.now = ap ended (ap (fold (with_piece c.args.reading) draft) (sym left) ∙ now.report) in
-    cc (c.in-ok-extend-from-slice.ensures.items, c.as-bytes.ensures.value, c.in-ok-summary.ensures)
+    cc (c.in_ok-extend_from_slice.ensures.items, c.as_bytes.ensures.value, c.in_ok-summary.ensures)

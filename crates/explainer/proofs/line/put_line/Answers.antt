@@ -6,6 +6,6 @@ use Rattle.explainer.proofs.line.put_line.Goals as goal
 pub returns : goal.returns
 returns c =
     in_three (vec_items c.args.out.now) (head c.args.part.offset) (shown c.args.part.bytes.now) (tail c.args.words.now c.args.finished)
-    (cc (c.in-ok-extend-from-slice.ensures.items, c.as-bytes.ensures.value, c.in-ok-head.ensures))
-    c.in-ok-show.ensures
-    (cc (c.in-ok-extend-from-slice-2.ensures.items, c.as-bytes-2.ensures.value, c.in-ok-tail.ensures))
+    (cc (c.in_ok-extend_from_slice.ensures.items, c.as_bytes.ensures.value, c.in_ok-head.ensures))
+    c.in_ok-show.ensures
+    (cc (c.in_ok-extend_from_slice-2.ensures.items, c.as_bytes-2.ensures.value, c.in_ok-tail.ensures))

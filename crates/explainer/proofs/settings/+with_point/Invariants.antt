@@ -1,4 +1,4 @@
 use Rattle.explainer.proofs.settings.+with_point.Given as goal
 
-abbrev pub decreases-with-point : goal.decreases-with-point
-decreases-with-point l = l.places
+abbrev pub decreases-with_point : goal.decreases-with_point
+decreases-with_point l = l.places

@@ -6,4 +6,4 @@ pub returns : goal.returns
 returns c =
     let list = string_bytes c.args.list.now in
     let joined = append_assoc list (comma list) c.args.phrase.now in
-    cc (c.in-ok-push-str-2.ensures.bytes, c.in-ok-push-str.ensures.bytes, c.comma-after-comma.ensures, c.as-str.ensures.value)
+    cc (c.in_ok-push_str-2.ensures.bytes, c.in_ok-push_str.ensures.bytes, c.comma_after-comma.ensures, c.as_str.ensures.value)

@@ -11,7 +11,7 @@ loop-axis-preserved c =
     let r = c.args.request.now in
     let at = c.loop-axis.axis-index in
     let more = fold_more (with_axis r) [] in_order at X c.loop-axis-test.true in
-    cc c.in-ok-add-axis.ensures
+    cc c.in_ok-add_axis.ensures
 
 pub returns : goal.returns
 unfolding listed

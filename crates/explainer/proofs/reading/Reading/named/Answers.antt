@@ -9,7 +9,7 @@ differs : (word other : List ℕ) → (word ≡ other → ⊥) → bytes_eq word
 differs word other h =
     same_from_decides (bytes_eq word other) false (bytes_eq-Decides word other) ((λ e. absurd (false≢true e)), (λ e. absurd (h e)))
 
-pub returns-in-default : goal.returns-in-default
-returns-in-default c =
+pub returns-in_default : goal.returns-in_default
+returns-in_default c =
     let word = c.args.word.now in
-    rw (differs word (codes "p") c.in-default.not-p, differs word (codes "set") c.in-default.not_set)
+    rw (differs word (codes "p") c.in_default.not-p, differs word (codes "set") c.in_default.not-set)
