@@ -36,4 +36,4 @@ returns-in-Err-Reach g c =
     let told = c.in-Err-Reach.ensures in
     let gone = left o k was _ c.args.head.entry _ _ same told.answer _ told.after in
     let cleared = c.clear.ensures ∙ ap (λ s. clear o true k (record { drive = s; posts = was.posts; output = was.output })) gone in
-    ap (part g.D.Drive.state c.clear.new.self) c.by-reach.ensures ∙ overreached o k was _ cleared ∙ replied o k was (Err Reach) c.args.head.entry _ _ same (search rules)
+    ap (part g.D.Drive.state c.clear.new.self) c.by_reach.ensures ∙ overreached o k was _ cleared ∙ replied o k was (Err Reach) c.args.head.entry _ _ same (search rules)

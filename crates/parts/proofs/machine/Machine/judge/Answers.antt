@@ -7,4 +7,4 @@ use Rattle.parts.proofs.machine.Machine.judge.Goals as goal
 pub returns : goal.returns
 returns g c =
     let was = machine_view g.D.Drive.state c.args.self.now in
-    c.judge-by.ensures ∙ judged_at _ c.args.word (index c.args.axis) was c.is-killed-killed.result c.is-hit-hit.result (search rules) (search rules)
+    c.judge_by.ensures ∙ judged_at _ c.args.word (index c.args.axis) was c.is_killed-killed.result c.is_hit-hit.result (search rules) (search rules)
