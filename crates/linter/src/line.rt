@@ -79,8 +79,8 @@ pub(crate) fn put_line(
     requires { verdict.now ≡ judged part.bytes.now }
     ensures { Adds result out.old out.new (line part.entry.bytes.now part.entry.offset finished) }
 {
-    let head = head_of(out.allocator(), part.offset)?;
-    let tail = tail_of(out.allocator(), verdict, finished)?;
+    let head = head_of(*out.allocator(), part.offset)?;
+    let tail = tail_of(*out.allocator(), verdict, finished)?;
     out.extend_from_slice(head.as_bytes())?;
     show(out, part.bytes)?;
     out.extend_from_slice(tail.as_bytes())?;

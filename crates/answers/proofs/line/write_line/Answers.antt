@@ -10,8 +10,8 @@ loop-i-init c =
     let none = sym (fields_none c.args.numbers.now) in
     (record { end = ap length none; is = ap (λ l. over l c.args.block.now) none }, omega arith)
 
-pub write-field-at-requires : goal.write-field-at-requires
-write-field-at-requires c = omega arith
+pub write_field-at-requires : goal.write_field-at-requires
+write_field-at-requires c = omega arith
 
 pub loop-i-preserved : goal.loop-i-preserved
 loop-i-preserved c =
@@ -23,8 +23,8 @@ loop-i-preserved c =
       | else-i-numbers w ↦ w.end-is ∙ ends_last zs i w.if-i-numbers.false
     ] in
     let fits : SFits w64 (get_or zs i (pos 0)) = search rules in
-    let far = simp to_z-of_z at c.write-field-at.ensures.end in
-    let stored = simp to_z-of_z at c.write-field-at.ensures.block in
+    let far = simp to_z-of_z at c.write_field-at.ensures.end in
+    let stored = simp to_z-of_z at c.write_field-at.ensures.block in
     (wrote_more zs c.args.block.now i c.loop-i.at c.loop-i.block c.if-i-numbers.end _ _ c.loop-i-test.true end c.loop-i.invariant.0 far stored, omega arith)
 
 pub returns : goal.returns

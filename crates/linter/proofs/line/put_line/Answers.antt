@@ -8,6 +8,6 @@ pub returns : goal.returns
 returns c =
     let text = c.args.part.bytes.now in
     in_three (vec_items c.args.out.now) (head c.args.part.offset) (shown text) (tail (judged text) c.args.finished)
-    (cc (c.in-ok-extend-from-slice.ensures.items, c.as-bytes.ensures.value, c.in-ok-head.ensures))
-    c.in-ok-show.ensures
-    (cc (c.in-ok-extend-from-slice-2.ensures.items, c.as-bytes-2.ensures.value, c.in-ok-tail.ensures, c.requires))
+    (cc (c.in_ok-extend_from_slice.ensures.items, c.as_bytes.ensures.value, c.in_ok-head.ensures))
+    c.in_ok-show.ensures
+    (cc (c.in_ok-extend_from_slice-2.ensures.items, c.as_bytes-2.ensures.value, c.in_ok-tail.ensures, c.requires))

@@ -9,7 +9,7 @@ loop-byte-preserved c =
     let text = c.args.text.now in
     let at = c.loop-byte.byte-index in
     let out = vec_items c.loop-byte.out in
-    added out (shown_byte (get_or text at 0)) (shown (drop (at + 1) text)) c.in-ok-show-byte.ensures
+    added out (shown_byte (get_or text at 0)) (shown (drop (at + 1) text)) c.in_ok-show_byte.ensures
     (sym (at_drop_more (λ l. out ++ shown l) text at 0 c.loop-byte-test.true) ∙ c.loop-byte.invariant)
 
 pub returns : goal.returns

@@ -11,4 +11,4 @@ returns-then-self-gt0 c =
 pub returns : goal.returns
 returns c =
     let r = c.args.self.now in
-    kept_new r.bytes c.args.text.now _ _ r.len _ (omega arith) c.min-len.ensures c.copy-from-slice.ensures.after
+    kept_new r.bytes c.args.text.now _ _ r.len _ (omega arith) c.min-len.ensures c.copy_from_slice.ensures.after

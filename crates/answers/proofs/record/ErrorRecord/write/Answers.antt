@@ -14,7 +14,7 @@ returns c =
       len = omega (arith, length_push (held r) 10);
       block =
           c.store.ensures
-          ∙ ap (λ b. set b r.len 10) (c.write-bytes.ensures ∙ ap (λ k. over (take k r.bytes) c.args.block.now) whole)
+          ∙ ap (λ b. set b r.len 10) (c.write_bytes.ensures ∙ ap (λ k. over (take k r.bytes) c.args.block.now) whole)
           ∙ ap (λ k. set (over (held r) c.args.block.now) k 10) (sym (zero-add (length (held r)) ∙ n))
           ∙ put-push 0 (held r) 10 c.args.block.now;
     }
