@@ -1,4 +1,5 @@
 //! Words of sixteen contacts, as they are sampled and as they are output, and the contacts that kill an axis.
+#![tactic(auto)]
 
 pub mod kill;
 pub mod word;

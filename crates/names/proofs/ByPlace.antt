@@ -1,11 +1,11 @@
 -- What a match on the leading bytes gives is the named text. Assumes nothing.
-use Rattle.std.proofs.Common.{◌≡◌, ℕ, suc, ◌+◌, ◌<◌, ◌≤◌, max, Bool, true, false, cond, ◌&&◌, eqb, ltb, List, [], ◌∷◌, ◌++◌, map, length, get_or, drop, Some, None, Ok, Err, Option, Result, sym, refl, ap, ◌∙◌, ⊎_elim, add-zero, zero-add, arith, drop-cons}
+use Rattle.std.proofs.Common.{◌≡◌, ℕ, suc, ◌+◌, ◌<◌, ◌≤◌, max, true, false, cond, eqb, List, [], ◌∷◌, ◌++◌, map, length, drop, Some, None, Ok, Err, Option, sym, refl, ap, ◌∙◌, ⊎_elim, add-zero, zero-add, arith, drop-cons}
 use Rattle.std.proofs.lemmas.List.{drop_all, take_rest}
 use Rattle.std.proofs.lemmas.Bool.{cases_Bool, cases_lt, lt-ltb, le-ltb, true≢false}
 use Rattle.std.proofs.lemmas.Bool.Decides.{nat_tests}
 use Rattle.std.specs.Option.{option_map, ok_or}
 use Rattle.names.specs.Tables.{Row, upper, begins, along, leading, reach, cut, named}
-use Rattle.names.specs.Places.{has_at, has, end, after, lead, short, stop}
+use Rattle.names.specs.Places.{has, end, after, lead, short, stop}
 
 has_begins : (ns : List ℕ) (i : ℕ) (text : List ℕ) → has ns i text ≡ begins ns (map upper (drop i text))
 has_begins [] i text = refl

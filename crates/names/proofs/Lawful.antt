@@ -1,10 +1,9 @@
 -- The laws of a table whose names are apart. Assumes nothing.
-use Rattle.std.proofs.Common.{◌≡◌, ℕ, zero, suc, ◌+◌, ◌<◌, ◌≤◌, max, Bool, true, false, cond, ◌&&◌, eqb, ◌⊎◌, List, [], ◌∷◌, map, length, take, drop, Some, None, Ok, Err, Option, sym, refl, ap, ◌∙◌, subst, inl, inr, ⊎_elim, arith}
+use Rattle.std.proofs.Common.{◌≡◌, ℕ, zero, suc, ◌<◌, ◌≤◌, true, false, eqb, ◌⊎◌, List, [], ◌∷◌, map, length, take, Some, None, Err, Option, sym, refl, ap, ◌∙◌, subst, inl, inr, ⊎_elim, arith}
 use Rattle.std.proofs.lemmas.Bool.{and_parts, and_from, both_ways, cases_Bool, cases_lt, false≢true, eq-eqb, eqb-true}
-use Rattle.std.proofs.lemmas.Bool.Decides.{nat_tests}
 use Rattle.std.specs.Option.{option_map, ok_or}
 use Rattle.names.specs.Tables.{Row, upper, begins, along, leading, reach, cut, named}
-use Rattle.names.specs.Laws.{Stands, Apart, Nameless, Goes_on, Place, Lawful, ApartIsLawful}
+use Rattle.names.specs.Laws.{Stands, Apart, Nameless, Place, Lawful, ApartIsLawful}
 
 -- of two names at the front of the same bytes, one begins the other
 one_begins : (a b bs : List ℕ) → begins a bs ≡ true → begins b bs ≡ true → (begins a b ≡ true) ⊎ (begins b a ≡ true)

@@ -1,5 +1,5 @@
 -- The names of port P.
-use Rattle.std.specs.Prelude.{ℕ, List, [], ◌∷◌, ◌++◌, map, codes}
+use Rattle.std.specs.Prelude.{ℕ, List, [], ◌∷◌, map, codes}
 use Rattle.names.specs.declared.bench.BenchName.{BenchName}
 use Rattle.names.specs.declared.bench.BenchName.TheVariants.{Pr, Pa, St, Ws, Tp}
 use Rattle.names.specs.Tables.{Row}

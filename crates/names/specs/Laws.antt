@@ -1,5 +1,5 @@
 -- What others use of a table: no name begins another, and what follows from that alone.
-use Rattle.std.specs.Prelude.{◌≡◌, ℕ, zero, suc, ◌+◌, ◌<◌, ◌≤◌, true, false, List, [], ◌∷◌, map, length, take, Ok, Err}
+use Rattle.std.specs.Prelude.{◌≡◌, ℕ, zero, suc, ◌<◌, ◌≤◌, true, false, List, [], ◌∷◌, map, length, take, Ok, Err}
 use Rattle.names.specs.Tables.{Row, upper, begins, cut, named}
 
 -- the row r stands in the table at the place i

@@ -1,4 +1,6 @@
 // Names at the front of a command text, in letters of either case, each kind over a table of its own.
+#![tactic(auto)]
+
 ghost use Rattle.names.specs.Laws.{ApartIsLawful};
 
 mod bench;
