@@ -9,8 +9,8 @@ pub returns : goal.returns
 returns g c = λ block.
     let l = live_view g.D.Drive.state c.args.self.now in
     let k = addressed l l.selection c.args.last in
-    let all = c.place-all.ensures.does ∙ is_taken _ _ _ c.requires in
-    did_by (ap (place_unless g.D.Drive.ops l k (batch_on c.args.request.now)) c.in-default.ensures) (record {
+    let all = c.place_all.ensures.does ∙ is_taken _ _ _ c.requires in
+    did_by (ap (place_unless g.D.Drive.ops l k (batch_on c.args.request.now)) c.in_default.ensures) (record {
       now = ap (λ q. live (on k q.now)) all;
       says = refl;
       rows = ap (λ q. q.tells) all;
