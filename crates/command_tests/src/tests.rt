@@ -281,6 +281,6 @@ fn clears_and_records(rt: HostRuntime) -> Result<(), Fail> {
     assert!(rt; matches!(answer.request, Request::Positions(Selection::One(Axis::S))));
     assert_eq!(rt; answer.last.number(), 8);
     let refusal = command(Port::M, ONE, b"##x").err().ok_or("taken")?;
-    assert_eq!(rt; refusal.recorded(b"##x"), b"##");
+    assert_eq!(rt; refusal.recorded(b"##x"), b"##".as_slice());
     Ok(())
 }

@@ -1,13 +1,11 @@
 //! Reads a block of texts from standard input, and prints what each of them asks for.
+use anyhow::anyhow;
 use explainer::{Reading, report};
 use std::env;
 use std::io::Read;
 
 fn wrong(rt: &HostRuntime, what: &str) -> anyhow::Result<Reading> {
-    let line = format!(in rt.alloc();
-        "allowed arguments are p (port P), set (Set), or none (port M), and not {what}"
-    )?;
-    Err(line.into())
+    Err(anyhow!("allowed arguments are p (port P), set (Set), or none (port M), and not {what}"))
 }
 
 /// The reading that the argument asks for: with none, port M's.

@@ -12,12 +12,12 @@ fn shown<'a>(piece: Piece<'a>) -> (u8, &'a [u8], usize) {
 #[test]
 fn parts(rt: HostRuntime) {
     let mut reader = Reader::new(b" MR5;\r\nGO ;T");
-    assert_eq!(rt; shown(reader.next()), (1, b"MR5", 1));
-    assert_eq!(rt; shown(reader.next()), (1, b"GO", 7));
-    assert_eq!(rt; shown(reader.next()), (2, b"T", 11));
-    assert_eq!(rt; shown(reader.next()), (0, b"", 0));
+    assert_eq!(rt; shown(reader.next()), (1u8, b"MR5".as_slice(), 1usize));
+    assert_eq!(rt; shown(reader.next()), (1u8, b"GO".as_slice(), 7usize));
+    assert_eq!(rt; shown(reader.next()), (2u8, b"T".as_slice(), 11usize));
+    assert_eq!(rt; shown(reader.next()), (0u8, b"".as_slice(), 0usize));
     let mut blank = Reader::new(b"; \n");
-    assert_eq!(rt; shown(blank.next()), (0, b"", 0));
+    assert_eq!(rt; shown(blank.next()), (0u8, b"".as_slice(), 0usize));
 }
 
 fn read(text: &[u8], point: bool) -> Result<(i64, usize, usize), usize> {

@@ -10,9 +10,9 @@ pub returns-in-Set : goal.returns-in-Set
 returns-in-Set g c =
     let o = g.D.Drive.ops in
     let p = parked_view g.D.Drive.state c.args.parked in
-    let text = c.as-slice.result.now in
-    settled_all _ (set_settled o p text) c.set.ensures.does c.set.ensures.says c.settled-by-outcome.ensures
-    ∙ ap (λ x. C.call o (C.parked p) (C.set_call x)) c.as-slice.ensures.value
+    let text = c.as_slice.result.now in
+    settled_all _ (set_settled o p text) c.set.ensures.does c.set.ensures.says c.settled_by-outcome.ensures
+    ∙ ap (λ x. C.call o (C.parked p) (C.set_call x)) c.as_slice.ensures.value
     ∙ ap (λ k. C.call o (C.parked p) (call_view k)) (sym c.in-Set.is)
 
 pub returns-in-Arm : goal.returns-in-Arm
@@ -22,4 +22,4 @@ returns-in-Arm g c =
     ap (λ x. C.after (C.live x) C.done) c.arm.ensures ∙ ap (λ k. C.call g.D.Drive.ops (C.parked p) (call_view k)) (sym c.in-Arm.is)
 
 pub returns : goal.returns
-returns g c = parked_untaken g.D.Drive.ops (parked_view g.D.Drive.state c.args.parked) c.args.call c.in-default.not-Set c.in-default.not-Arm
+returns g c = parked_untaken g.D.Drive.ops (parked_view g.D.Drive.state c.args.parked) c.args.call c.in_default.not-Set c.in_default.not-Arm

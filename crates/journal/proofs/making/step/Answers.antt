@@ -10,7 +10,7 @@ pub returns : goal.returns
 returns g c =
     let o = g.D.Drive.ops in
     let l = live_view g.D.Drive.state c.args.live in
-    let sheet = c.as-mut-slice.result.now in
+    let sheet = c.as_mut_slice.result.now in
     let whole = ap (of_sheet c.step-reply.result) (relent c.args.sheet.len _ _ (omega arith)) in
-    rowed_all _ (step_mute o l c.args.readings.now c.args.health sheet) c.step-reply.ensures (c.rowed-by.ensures ∙ whole)
-    ∙ ap (λ x. C.call o (C.live l) (C.step c.args.readings.now c.args.health x)) c.as-mut-slice.ensures.value
+    rowed_all _ (step_mute o l c.args.readings.now c.args.health sheet) c.step-reply.ensures (c.rowed_by.ensures ∙ whole)
+    ∙ ap (λ x. C.call o (C.live l) (C.step c.args.readings.now c.args.health x)) c.as_mut_slice.ensures.value

@@ -15,7 +15,7 @@ loop-call-preserved g c =
     let came = c.loop-call.yielded in
     let a = after_view g.D.Drive.state c.make-next.result.0 c.make-next.result.1 in (
       append_assoc came (call ∷ []) _ ∙ ap (λ l. came ++ l) (sym c.in-Some.ensures.steps.0) ∙ c.loop-call.invariant.0,
-      ran_more g.D.Drive.ops (call_view call) a c.make-next.ensures c.loop-call.invariant.1 (map-append call_view came (call ∷ [])) (ap (map outcome_view) c.in-ok-push.ensures.items ∙ map-append outcome_view (vec_items c.loop-call.journal) _),
+      ran_more g.D.Drive.ops (call_view call) a c.make-next.ensures c.loop-call.invariant.1 (map-append call_view came (call ∷ [])) (ap (map outcome_view) c.in_ok-push.ensures.items ∙ map-append outcome_view (vec_items c.loop-call.journal) _),
     )
 
 pub returns : goal.returns
@@ -24,7 +24,7 @@ returns g c =
     let s = g.D.Drive.state c.args.drive in
     let rest = c.loop-call.call-iterator.rest in
     let none : length rest.items ≡ 0 = omega (arith, rest.ok, c.in-None.ensures.steps.0) in
-    let all : c.loop-call.yielded ≡ vec_items c.args.calls = all_came _ rest.items _ none c.loop-call.invariant.0 ∙ c.into-iter-call-iterator.ensures.into-iter-gives.0 in
+    let all : c.loop-call.yielded ≡ vec_items c.args.calls = all_came _ rest.items _ none c.loop-call.invariant.0 ∙ c.into_iter-call-iterator.ensures.into_iter_gives.0 in
     let journal : map outcome_view (vec_items c.loop-call.journal) ≡ outcomes o (new o s) (map call_view (vec_items c.args.calls)) =
     c.loop-call.invariant.1.told ∙ (λ i. outcomes o (c.new.ensures.says i) (map call_view (all i))) in
     record { journal = journal; account = kept o g.met.D.Drive.keeps s (map call_view (vec_items c.args.calls)) _ journal }
