@@ -1,4 +1,6 @@
 //! What is written into an answer block: numbers on a line, and the first-error record.
+#![tactic(auto)]
+
 mod line;
 mod question;
 mod record;

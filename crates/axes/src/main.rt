@@ -1,4 +1,6 @@
 //! Runs a live controller: reads lines from standard input, and answers each before the next is read.
+#![tactic(auto)]
+
 ghost use Rattle.std.specs.Prelude.{◌≡◌};
 ghost use Rattle.model.specs.Controller as C;
 ghost use Rattle.controller.specs.Views.{live_view};

@@ -1,13 +1,11 @@
 -- What a text on port M asks for. Assumes nothing.
 use Rattle.std.specs.Prelude.{ℕ, ◌-◌, true, false, List, [], length, pos, Ok, Err, Result}
-use Rattle.drive.specs.declared.axis.Axis.{Axis}
 use Rattle.drive.specs.declared.axis.Axis.TheVariants.{X, Y, Z, T, U, V, R, S}
 use Rattle.drive.specs.Axes.{index}
 use Rattle.names.specs.declared.mount.Name.{Name}
 use Rattle.names.specs.declared.mount.Name.TheVariants as N
 use Rattle.names.specs.Tables.{named}
 use Rattle.names.specs.Mount.{mount_names}
-use Rattle.queue.specs.declared.entry.Code.{Code}
 use Rattle.queue.specs.declared.entry.Code.TheVariants.{Ma, Mr, Go, Bh, Bl, Sw, Bw}
 use Rattle.command.specs.declared.mount.Operand.{Operand}
 use Rattle.command.specs.declared.mount.Operand.TheVariants.{Nothing, Amount, Bit, Amounts, GoList, KillList, Invalid}

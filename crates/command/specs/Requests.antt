@@ -1,5 +1,5 @@
 -- What a request does to each axis, and what a refusal tells. Assumes nothing.
-use Rattle.std.specs.Prelude.{ℕ, ◌+◌, Bool, true, false, cond, List, [], ◌∷◌, take, set, replicate, ℤ, pos, is_some, Some, None, Ok, Err, Option, Result, ◌==◌, slice_index_or, slice_set}
+use Rattle.std.specs.Prelude.{ℕ, ◌+◌, Bool, true, false, List, [], take, replicate, ℤ, pos, is_some, Some, None, Ok, Err, Option, Result, ◌==◌, slice_index_or, slice_set}
 use Rattle.text.specs.Decimals.{Fixed, fixed, given}
 use Rattle.drive.specs.declared.axis.Axis.{Axis}
 use Rattle.drive.specs.Axes.{axes, index}

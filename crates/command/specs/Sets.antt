@@ -1,5 +1,5 @@
 -- What a text to Set asks for. Assumes nothing.
-use Rattle.std.specs.Prelude.{ℕ, ◌+◌, ◌-◌, Bool, true, false, cond, ◌||◌, List, [], ◌∷◌, length, drop, ℤ, pos, Some, None, Ok, Err, Option, Result, ◌==◌, int_le, unsigned_abs}
+use Rattle.std.specs.Prelude.{ℕ, ◌+◌, ◌-◌, true, false, cond, ◌||◌, List, [], ◌∷◌, length, drop, pos, Some, None, Ok, Err, Option, Result, ◌==◌, int_le, unsigned_abs}
 use Rattle.text.specs.declared.number.Number.{Number}
 use Rattle.text.specs.Decimals.{Fixed, decimal_of}
 use Rattle.drive.specs.declared.axis.Axis.TheVariants.{X, Y, Z, T, U, V, R, S}

@@ -1,4 +1,6 @@
 //! What one text asks for, or its refusal.
+#![tactic(auto)]
+
 mod bench;
 mod fields;
 mod mount;

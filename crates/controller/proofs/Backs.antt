@@ -1,5 +1,5 @@
 -- What is answered about positions reads back as the positions.
-use Rattle.std.proofs.Common.{◌≡◌, ℕ, suc, ◌+◌, ◌^◌, ◌<◌, Bool, true, false, ◌||◌, eqb, leb, List, [], ◌∷◌, ◌++◌, map, length, drop, ℤ, nat_abs, is_ok, Ok, Err, Result, sym, refl, ap, ◌∙◌, subst, append_assoc, add-one, arith}
+use Rattle.std.proofs.Common.{◌≡◌, ℕ, suc, ◌+◌, ◌^◌, ◌<◌, Bool, true, false, ◌||◌, eqb, leb, List, [], ◌∷◌, ◌++◌, map, length, drop, ℤ, nat_abs, is_ok, Err, Result, sym, refl, ap, ◌∙◌, subst, append_assoc, add-one, arith}
 use Rattle.text.specs.Numbers.{digit, reads}
 use Rattle.text.specs.Writing.{decimal}
 use Rattle.text.proofs.Reading.{round_trip}

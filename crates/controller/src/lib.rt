@@ -1,4 +1,6 @@
 //! The controller: parked or live, with six calls.
+#![tactic(auto)]
+
 mod live_calls;
 mod obeying;
 mod parked_calls;

@@ -1,11 +1,10 @@
 -- What the laws give of `begin`, answered either way, and of a loop that halts axes in turn. Assumes nothing.
-use Rattle.std.proofs.Common.{◌≡◌, ℕ, zero, suc, ◌<◌, ◌≤◌, Bool, true, false, ◌≢◌, ℤ, Ok, Err, Result, sym, refl, ap, ◌∙◌, subst, ⊎_elim, arith}
+use Rattle.std.proofs.Common.{◌≡◌, ℕ, zero, suc, ◌<◌, ◌≤◌, Bool, true, false, ◌≢◌, ℤ, Ok, Result, sym, refl, ap, ◌∙◌, subst, ⊎_elim, arith}
 use Rattle.std.proofs.lemmas.Bool.{cases_eq}
 use Rattle.drive.specs.Axes.{axes, through}
 use Rattle.drive.specs.Drive.{Ops, answer, left_by, reaches, reply, tried}
 use Rattle.drive.specs.Laws.{Keeps, Aimed, Kept}
 use Rattle.drive.specs.declared.motion.Decline.{Decline}
-use Rattle.drive.specs.declared.motion.Decline.TheVariants.{Down, Reach}
 
 module _ {S : Type 0} {o : Ops S} {k : ℕ} where
   pub kept_same : (s : S) → Kept o s s k

@@ -1,5 +1,5 @@
 -- Whole numbers divided by a positive one: toward zero, down and up. Assumes nothing.
-use Rattle.std.specs.Prelude.{◌≡◌, ℕ, zero, suc, ◌+◌, ◌*◌, ◌/◌, ◌<◌, ◌≤◌, ℤ, pos, negsuc, ◌*ℤ◌, neg_ℤ, ◌≤ℤ◌, int_div, refl}
+use Rattle.std.specs.Prelude.{◌≡◌, ℕ, zero, suc, ◌*◌, ◌/◌, ◌<◌, ◌≤◌, ℤ, pos, negsuc, ◌*ℤ◌, neg_ℤ, ◌≤ℤ◌, int_div, refl}
 use Rattle.std.proofs.Common.{sym, ap, subst, ◌∙◌, inl, inr, zero-mul, suc-mul, mul-le-mul_right, le-div_iff_mul-le, div-mul-le_self, mul-div_cancel, div-le_self, arith}
 use Rattle.std.proofs.Math.Nat.{zero-div, lt-div-mul-add}
 use Rattle.std.proofs.Math.IntN.{neg_ℤ-neg_ℤ}

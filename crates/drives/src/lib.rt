@@ -1,4 +1,6 @@
 // Three drives: counting, reporting, and ratio over any other.
+#![tactic(auto)]
+
 pub mod counting;
 pub mod parts;
 pub mod ratio;

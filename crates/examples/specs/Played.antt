@@ -1,5 +1,5 @@
 -- What a worked example is: calls on a new controller over the counting drive, and all that they give.
-use Rattle.std.specs.Prelude.{ℕ, false, List, [], ◌∷◌, map, length, replicate, pos, Some, None, Option, slice_set}
+use Rattle.std.specs.Prelude.{ℕ, false, List, [], map, length, replicate, pos, Some, None, Option, slice_set}
 use Rattle.text.specs.Decimals.{Fixed}
 use Rattle.contacts.specs.Kills.{no_kills}
 use Rattle.drive.specs.declared.axis.Axis.{Axis}

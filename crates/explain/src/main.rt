@@ -1,4 +1,6 @@
 //! Reads a block of texts from standard input, and prints what each of them asks for.
+#![tactic(auto)]
+
 use anyhow::anyhow;
 use explainer::{Reading, report};
 use std::env;

@@ -1,4 +1,6 @@
 //! Tells what the texts of a received block ask for.
+#![tactic(auto)]
+
 mod block;
 mod line;
 mod reading;

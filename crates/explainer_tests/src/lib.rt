@@ -1,3 +1,5 @@
 //! Runs the worked examples of `lint`, for each of its three readings.
+#![tactic(auto)]
+
 #[cfg(test)]
 mod tests;

@@ -1,4 +1,6 @@
 //! What the places of refusals mean: which texts have the right form, and where a text ceases to have it.
+#![tactic(auto)]
+
 ghost use Rattle.grammar.specs.Law.{OnMount, OnBench, OffBench, InSet};
 ghost use Rattle.grammar.specs.Examples.{Examples};
 

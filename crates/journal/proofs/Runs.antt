@@ -1,6 +1,5 @@
 -- A run, call by call, and the account of its journal.
-use Rattle.std.proofs.Common.{◌≡◌, ℕ, ◌<◌, List, [], ◌∷◌, ◌++◌, length, sym, refl, ap, ◌∙◌, subst, ap₂, append-nil, arith}
-use Rattle.drive.specs.Axes.{axes}
+use Rattle.std.proofs.Common.{◌≡◌, List, [], ◌∷◌, ◌++◌, length, sym, refl, ap, ◌∙◌, subst, ap₂, append-nil, arith}
 use Rattle.drive.specs.Drive.{Ops}
 use Rattle.drive.specs.Laws.{Keeps}
 use Rattle.model.specs.Controller.{Controller, Call, Outcome, After, call, new}

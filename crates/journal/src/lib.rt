@@ -1,4 +1,6 @@
 //! A list of calls, made on a new controller, and what each of them told.
+#![tactic(auto)]
+
 mod calls;
 mod making;
 mod running;

@@ -1,4 +1,6 @@
 // Reads a block of command texts for port M from standard input, and prints what each text is.
+#![tactic(auto)]
+
 use linter::report;
 use std::io::Read;
 

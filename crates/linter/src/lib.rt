@@ -1,4 +1,6 @@
 // Tells what the texts of a received block are.
+#![tactic(auto)]
+
 mod block;
 mod line;
 mod tally;

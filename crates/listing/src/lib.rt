@@ -1,4 +1,6 @@
 //! The lines of a session with a controller: what a line asks for, and what is printed of a call's outcome.
+#![tactic(auto)]
+
 ghost use Rattle.listing.specs.Examples.{Read, Printed};
 
 mod hex;

@@ -6,7 +6,7 @@ use Rattle.drive.specs.Drive.{Ops}
 use Rattle.queue.specs.declared.entry.Entry.{Entry}
 use Rattle.queue.specs.Entries.{effects}
 use Rattle.model.specs.Machine.{at}
-use Rattle.model.specs.Controller.{Controller, call}
+use Rattle.model.specs.Controller.{Controller}
 use Rattle.model.specs.Account.{Event, event, sampled, Moment, History, end_of, events, latest, accepted_in, executed_in, accepted, executed, Open, Begins, counted, numbered, Span, led, machine_of, waiting_at, kills_at, target_at, position_at, Account}
 use Rattle.model.proofs.Moves.{Track, Moves, Fresh, closed_fresh, closed_drops, count_moves, Numbers, Went, went_step}
 

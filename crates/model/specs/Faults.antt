@@ -2,7 +2,7 @@
 use Rattle.std.specs.Prelude.{◌≡◌, ℕ, true, false, List, [], ◌∷◌, replicate, ℤ, pos, None, codes}
 use Rattle.std.specs.List.{AllByRecursion as All}
 use Rattle.contacts.specs.declared.kill.KillInputs.{KillInputs}
-use Rattle.contacts.specs.Kills.{hit, with_kill, no_kills}
+use Rattle.contacts.specs.Kills.{with_kill, no_kills}
 use Rattle.drive.specs.declared.axis.Axis.TheVariants.{X}
 use Rattle.drive.specs.Axes.{axes}
 use Rattle.drive.specs.Drive.{Ops}

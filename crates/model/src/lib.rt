@@ -1,4 +1,6 @@
 //! The defined controller, and the account of every run.
+#![tactic(auto)]
+
 ghost use Rattle.model.specs.Account.{Accounted};
 ghost use Rattle.model.specs.Faults.{Caught, Right};
 ghost use Rattle.model.specs.Stances.{Alone, Decided};

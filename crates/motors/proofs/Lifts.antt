@@ -1,5 +1,5 @@
 -- A rule for one axis, lifted to a bank, keeps the laws of a drive; and loops over the motors. Assumes nothing.
-use Rattle.std.proofs.Common.{◌≡◌, ℕ, ◌+◌, ◌<◌, ◌≤◌, Bool, true, ◌≢◌, List, length, get_or, set, ℤ, pos, sym, refl, ap, ◌∙◌, subst, ⊎_elim, arith}
+use Rattle.std.proofs.Common.{◌≡◌, ℕ, ◌+◌, ◌<◌, ◌≤◌, Bool, ◌≢◌, List, length, get_or, set, ℤ, pos, sym, refl, ap, ◌∙◌, subst, arith}
 use mathlib.Core.HLevel.{is_prop→PathP}
 use native.Mathlib.Nat.{ℕ_set}
 use lib.Signed.{le_z_yes}
@@ -7,7 +7,7 @@ use Rattle.std.proofs.lemmas.List.{get_or-set_same, get_or-set_other, get_or_def
 use Rattle.drive.specs.Axes.{axes}
 use Rattle.drive.specs.Health.{is_up}
 use Rattle.drive.specs.declared.health.Health.{Health}
-use Rattle.drive.specs.Laws.{Keeps, Aimed, Kept, Moved}
+use Rattle.drive.specs.Laws.{Keeps, Aimed, Kept}
 use Rattle.drive.specs.Range.{Between}
 use Rattle.drive.proofs.Filling.{Filled, filled_more, filled_each}
 use Rattle.drive.proofs.Indices.{getD_each}

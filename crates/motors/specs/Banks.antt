@@ -1,5 +1,5 @@
 -- A rule for one axis, at every axis. Assumes nothing.
-use Rattle.std.specs.Prelude.{◌≡◌, ℕ, pos, slice_index_or, slice_set}
+use Rattle.std.specs.Prelude.{ℕ, pos, slice_index_or, slice_set}
 use Rattle.std.proofs.Common.{◌∙◌, length-set}
 use Rattle.drive.specs.Axes.{each, length-each}
 use Rattle.drive.specs.Drive.{Ops}

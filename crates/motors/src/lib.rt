@@ -1,4 +1,6 @@
 // A motor for each axis, all moving by one rule for one axis.
+#![tactic(auto)]
+
 pub mod bank;
 pub mod motor;
 pub mod parts;

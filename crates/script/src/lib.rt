@@ -1,4 +1,6 @@
 //! What a line of a script asks for.
+#![tactic(auto)]
+
 ghost use Rattle.script.specs.Examples.{Taken, Skipped};
 
 mod drives;

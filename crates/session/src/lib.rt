@@ -1,4 +1,6 @@
 //! A session with a controller: each call is made, and what it told is printed.
+#![tactic(auto)]
+
 mod alike;
 mod lines;
 mod making;

@@ -1,4 +1,6 @@
 // Bytes into texts and numbers, and numbers into bytes.
+#![tactic(auto)]
+
 mod block;
 mod decimal;
 mod number;

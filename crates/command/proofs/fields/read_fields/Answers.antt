@@ -1,4 +1,4 @@
-use Rattle.std.proofs.Common.{◌≡◌, ◌<◌, ◌≤◌, sym, refl, ap, ◌∙◌, arith}
+use Rattle.std.proofs.Common.{◌<◌, sym, arith}
 use Rattle.drive.specs.Axes.{axes}
 use Rattle.drive.proofs.Indices.{axes_is}
 use Rattle.std.proofs.lemmas.List.{take_rest}

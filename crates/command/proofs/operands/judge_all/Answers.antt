@@ -1,5 +1,4 @@
-use Rattle.std.proofs.Common.{◌≡◌, ◌<◌, length, sym, arith}
-use Rattle.drive.specs.Axes.{axes}
+use Rattle.std.proofs.Common.{sym, arith}
 use Rattle.drive.proofs.Indices.{axes_is}
 use Rattle.std.proofs.lemmas.Result.{err_from_is_err_and}
 use Rattle.command.proofs.Fronts.{front_none}

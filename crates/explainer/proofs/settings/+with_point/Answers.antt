@@ -1,4 +1,4 @@
-use Rattle.std.proofs.Common.{◌≡◌, ℕ, zero, suc, ◌-◌, ◌/◌, ◌%◌, ◌<◌, List, ◌++◌, decimal, sym, refl, ap, sub-one, arith, rules}
+use Rattle.std.proofs.Common.{◌≡◌, ℕ, zero, suc, ◌-◌, ◌/◌, ◌%◌, ◌<◌, ◌++◌, decimal, sub-one, arith, rules}
 use Rattle.explainer.specs.Settings.{with_point}
 use Rattle.explainer.proofs.settings.+with_point.Goals as goal
 

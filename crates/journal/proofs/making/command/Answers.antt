@@ -1,4 +1,4 @@
-use Rattle.std.proofs.Common.{vec_items, ◌∙◌, ap₂, arith}
+use Rattle.std.proofs.Common.{◌∙◌, ap₂, arith}
 use Rattle.model.specs.Controller as C
 use Rattle.controller.specs.Views.{live_view}
 use Rattle.model.specs.Seen.{of_command}

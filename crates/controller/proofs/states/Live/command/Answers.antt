@@ -1,4 +1,4 @@
-use Rattle.std.proofs.Common.{◌≡◌, ◌≤◌, length, Ok, Err, sym, refl, ap, ◌∙◌, arith}
+use Rattle.std.proofs.Common.{◌≡◌, length, Err, sym, refl, ap, ◌∙◌, arith}
 use Rattle.drive.specs.Axes.{axes}
 use Rattle.drive.proofs.Indices.{axes_is}
 use Rattle.command.specs.Reading.{read}

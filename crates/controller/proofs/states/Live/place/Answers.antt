@@ -1,4 +1,4 @@
-use Rattle.std.proofs.Common.{length, Ok, refl, ap, ◌∙◌}
+use Rattle.std.proofs.Common.{refl, ap, ◌∙◌}
 use Rattle.command.specs.Requests.{batch_on}
 use Rattle.model.specs.Controller.{live, on, addressed, place_unless}
 use Rattle.controller.specs.Views.{live_view}

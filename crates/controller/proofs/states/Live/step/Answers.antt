@@ -1,11 +1,8 @@
-use Rattle.std.proofs.Common.{◌≡◌, length, Ok, Err, sym, refl, ap, ◌∙◌, arith}
+use Rattle.std.proofs.Common.{◌≡◌, length, sym, refl, ◌∙◌}
 use Rattle.drive.specs.Axes.{axes}
 use Rattle.drive.proofs.Indices.{axes_is}
-use Rattle.model.specs.declared.refusal.Refusal.TheVariants.{Sheet, Readings}
-use Rattle.model.specs.Machine.{each, turn}
-use Rattle.model.specs.Controller.{live, on}
 use Rattle.controller.specs.Views.{live_view}
-use Rattle.controller.proofs.Calls.{took_by, is_taken, step_taken, step_short, step_unread}
+use Rattle.controller.proofs.Calls.{took_by, step_taken, step_short, step_unread}
 use Rattle.controller.proofs.states.Live.step.Goals as goal
 
 pub returns-then-sheet-ne-AXES : goal.returns-then-sheet-ne-AXES

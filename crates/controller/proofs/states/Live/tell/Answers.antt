@@ -1,4 +1,4 @@
-use Rattle.std.proofs.Common.{◌≡◌, length, replicate, Ok, refl, ap, ◌∙◌, le_trans}
+use Rattle.std.proofs.Common.{replicate, Ok, refl, ap, ◌∙◌, le_trans}
 use Rattle.text.proofs.Storing.{over_fits}
 use Rattle.model.specs.Rows.{nothing}
 use Rattle.parts.specs.Views.{machine_view}

@@ -1,4 +1,4 @@
-use Rattle.std.proofs.Common.{◌≤◌, [], ◌∷◌, ◌++◌, length, replicate, Ok, refl, ap, ◌∙◌, arith}
+use Rattle.std.proofs.Common.{◌≤◌, [], ◌∷◌, ◌++◌, length, replicate, Ok, ap, ◌∙◌, arith}
 use Rattle.std.proofs.lemmas.List.{length_push, length-take}
 use Rattle.text.proofs.Storing.{over_fits}
 use Rattle.answers.specs.Records.{held}

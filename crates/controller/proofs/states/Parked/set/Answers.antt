@@ -1,4 +1,4 @@
-use Rattle.std.proofs.Common.{sym, ap, ◌∙◌}
+use Rattle.std.proofs.Common.{ap, ◌∙◌}
 use Rattle.model.specs.Controller.{parked, setting_by, call}
 use Rattle.controller.specs.Replies.{taken}
 use Rattle.controller.specs.Views.{parked_view}

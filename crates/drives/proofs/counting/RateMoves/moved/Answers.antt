@@ -1,11 +1,9 @@
-use Rattle.std.proofs.Common.{◌≡◌, pos, ◌+ℤ◌, ◌-ℤ◌, ◌≤ℤ◌, ap, ◌∙◌, arith, w64, SFits, rules}
+use Rattle.std.proofs.Common.{pos, ◌+ℤ◌, ◌-ℤ◌, ◌≤ℤ◌, ap, ◌∙◌, arith, w64, SFits, rules}
 use borrow.Author.Differences.{ints}
 use Rattle.std.proofs.lemmas.Int.{to_z-of_z}
 use Rattle.motors.specs.Motors.{near}
-use Rattle.motors.specs.declared.parts.Motor.{Motor}
 use Rattle.motors.specs.declared.parts.Ranged.{Ranged}
 use Rattle.motors.proofs.Bounds.{ranged_back}
-use Rattle.drives.specs.declared.parts.Rate.{Rate}
 use Rattle.drives.specs.Bounds.{rate_back}
 use Rattle.drives.specs.Paces.{toward_clamped}
 use Rattle.drives.proofs.counting.RateMoves.moved.Goals as goal

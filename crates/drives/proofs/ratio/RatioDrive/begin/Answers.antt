@@ -1,4 +1,4 @@
-use Rattle.std.proofs.Common.{◌≡◌, ◌*ℤ◌, sym, ap, ◌∙◌, w64}
+use Rattle.std.proofs.Common.{◌*ℤ◌, sym, ap, ◌∙◌, w64}
 use Rattle.std.proofs.lemmas.Int.{to_z-of_z}
 use Rattle.drive.specs.Axes.{index}
 use Rattle.drive.specs.Drive.{reply, tried}

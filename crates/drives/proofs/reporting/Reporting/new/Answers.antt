@@ -1,4 +1,4 @@
-use Rattle.std.proofs.Common.{◌≡◌, ◌<◌, ◌≤◌, get_or, pos, sym, arith, w64, SFits, rules}
+use Rattle.std.proofs.Common.{◌<◌, ◌≤◌, get_or, pos, sym, arith, w64, SFits, rules}
 use Rattle.std.proofs.lemmas.Int.{to_z-of_z}
 use Rattle.drive.specs.Axes.{axes}
 use Rattle.drive.proofs.Filling.{filled_more}

@@ -1,4 +1,4 @@
-use Rattle.std.proofs.Common.{◌<◌, length, Some, ap, ◌∙◌, arith}
+use Rattle.std.proofs.Common.{Some, ap, ◌∙◌, arith}
 use Rattle.drive.specs.Axes.{in_order}
 use Rattle.parts.proofs.Barring.{axis_fails, axis_passes, axes_pass}
 use Rattle.parts.proofs.machine.Machine.barred_by.Goals as goal

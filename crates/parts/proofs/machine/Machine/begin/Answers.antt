@@ -1,9 +1,8 @@
-use Rattle.std.proofs.Common.{◌<◌, true, length, Err, ap, ◌∙◌, arith, rules}
-use Rattle.std.proofs.lemmas.List.{map-set, get_or-map}
+use Rattle.std.proofs.Common.{true, Err, ap, ◌∙◌, arith, rules}
 use Rattle.std.proofs.lemmas.Int.{to_z-of_z}
 use Rattle.drive.specs.declared.motion.Decline.TheVariants.{Reach}
 use Rattle.drive.specs.Axes.{index}
-use Rattle.model.specs.Machine.{blank, clear, perform}
+use Rattle.model.specs.Machine.{clear, perform}
 use Rattle.parts.specs.Views.{machine_view, part}
 use Rattle.parts.proofs.Branches.{serial_of, overreached, replied, left}
 use Rattle.parts.proofs.machine.Machine.begin.Goals as goal

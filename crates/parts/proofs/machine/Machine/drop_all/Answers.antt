@@ -1,4 +1,4 @@
-use Rattle.std.proofs.Common.{◌<◌, replicate, sym, ◌∙◌, arith}
+use Rattle.std.proofs.Common.{◌<◌, replicate, sym, arith}
 use Rattle.std.proofs.lemmas.List.{length-set}
 use Rattle.drive.specs.Axes.{axes}
 use Rattle.drive.proofs.Indices.{axes_is, index_of}

@@ -1,4 +1,4 @@
-use Rattle.std.proofs.Common.{true, false, Some, None, sym, refl, ap, ◌∙◌, rules}
+use Rattle.std.proofs.Common.{true, false, Some, None, refl, ◌∙◌, rules}
 use Rattle.parts.proofs.Branches.{heads_go, heads_other, turned, stayed}
 use Rattle.parts.proofs.machine.Machine.turn.Goals as goal
 
