@@ -1,6 +1,6 @@
 -- Texts of the right form, and others with the place at which they cease to be. Assumes nothing.
 use Rattle.std.specs.Prelude.{ℕ, Bool, true, false, List, [], ◌∷◌, Some, None, codes, Option}
-use Rattle.std.specs.List.{AllByRecursion as All}
+use Rattle.std.specs.List.{AllByRecursion}
 use Rattle.drive.specs.Axes.{each}
 use Rattle.grammar.specs.Forms.{RightOne, RightAll, RightBench, RightSet}
 use Rattle.grammar.specs.Law.{ThePlace}
@@ -52,4 +52,4 @@ examples =
     ∷ []
 
 abbrev pub Examples : Type 0
-Examples = All Shown examples
+Examples = AllByRecursion Shown examples

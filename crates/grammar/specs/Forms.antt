@@ -1,6 +1,6 @@
 -- Which texts have the right form, in the words of the rule book: nothing of how a text is read stands here.
 use Rattle.std.specs.Prelude.{◌≡◌, ℕ, ◌+◌, ◌-◌, ◌*◌, ◌≤◌, Bool, true, false, ◌⊎◌, List, [], ◌∷◌, ◌++◌, map, length, codes}
-use Rattle.std.specs.List.{AllByRecursion as All}
+use Rattle.std.specs.List.{AllByRecursion}
 use Rattle.drive.specs.Axes.{axes}
 
 -- The byte n of a name: a letter in either case, any other byte as it is.
@@ -18,7 +18,7 @@ abbrev pub Digit : ℕ → Type 0
 Digit b = (48 ≤ b) × (b ≤ 57)
 
 abbrev pub Digits : List ℕ → Type 0
-Digits bs = All Digit bs
+Digits bs = AllByRecursion Digit bs
 
 pub data Sign : List ℕ → Type 0 where
   unsigned : Sign []

@@ -1,7 +1,7 @@
 -- What each call does to one axis, and what holds of it between calls.
 use Rattle.std.proofs.Common.{◌≡◌, ℕ, zero, suc, ◌<◌, Bool, true, false, cond, eqb, leb, List, [], ◌∷◌, length, get_or, set, ℤ, pos, Some, None, Ok, Err, Option, Result, sym, refl, ap, ◌∙◌, subst, inl, inr, le_refl, le_of_suc-le-suc, not-suc-le-zero, arith, length-set}
 use lib.ListN.{length-map, length-replicate, get_or-replicate}
-use Rattle.std.specs.List.{AllByRecursion as All}
+use Rattle.std.specs.List.{AllByRecursion}
 use Rattle.std.proofs.lemmas.List.{get_or-map}
 use Rattle.std.proofs.lemmas.Int.{ints}
 use Rattle.std.proofs.lemmas.Bool.{or_parts}
@@ -77,7 +77,7 @@ else_none m batches None b e = (refl, e)
 verdict_ok : (a b c : Bool) → a ≡ false → b ≡ false → c ≡ false → verdict-of a b c ≡ Ok tt
 verdict_ok a b c p q r = rw (p, q, r)
 
-takes : (b : Option Batch) (v : Stance) → All (λ c. fails_for c v.post b ≡ false) conditions → Takes b v
+takes : (b : Option Batch) (v : Stance) → AllByRecursion (λ c. fails_for c v.post b ≡ false) conditions → Takes b v
 takes None v h = tt
 takes (Some b) v h =
     let q = v.post.queue in
@@ -91,7 +91,7 @@ module _ {S : Type 0} (m : Machine S) (batches : ℕ → Option Batch) where
   unbarred c (y ∷ ys) zero h e = (cond_none (fails_at m batches c y) _ (barred m batches c ys) e).0
   unbarred c (y ∷ ys) (suc i) h e = unbarred c ys i (le_of_suc-le-suc h) (cond_none (fails_at m batches c y) _ (barred m batches c ys) e).1
 
-  passes : (x : ℕ) → x < axes → (cs : List Condition) → barring m batches cs ≡ None → All (λ c. fails_for c (at x m) (batches x) ≡ false) cs
+  passes : (x : ℕ) → x < axes → (cs : List Condition) → barring m batches cs ≡ None → AllByRecursion (λ c. fails_for c (at x m) (batches x) ≡ false) cs
   unfolding barring axes
   passes x h [] e = tt
   passes x h (c ∷ cs) e =

@@ -1,6 +1,6 @@
 -- That the account catches faults.
 use Rattle.std.proofs.Common.{◌≡◌, ℕ, ◌+◌, true, List, [], ◌∷◌, ◌++◌, length, take, drop, Some, None, sym, refl, ap, ◌∙◌, subst, subst₂, arith, length-append}
-use Rattle.std.specs.List.{AllByRecursion as All}
+use Rattle.std.specs.List.{AllByRecursion}
 use Rattle.std.proofs.lemmas.Int.{ints}
 use Rattle.contacts.specs.Kills.{hit, hit_below}
 use Rattle.contacts.specs.Words.{written}
@@ -81,7 +81,7 @@ module _ (ma : Places ma9 MA9) (mr : Places mr5 MR5) (g : Places go GO) (hits : 
         let v = event 0 (end_of idle before) m.call m.outcome in (accepted_in v ≡ []) × (executed_in v ≡ []) × (position_at spots 0 m.now ≡ position_at spots 0 (end_of idle before))
     frozen a = a.killed before [] m 4 refl l (ap (λ j. hit j 4) k ∙ hits)
 
-  caught : All (λ h. Account spots 0 idle h → ⊥) faults
+  caught : AllByRecursion (λ h. Account spots 0 idle h → ⊥) faults
   caught =
       misplaced [] executed_twice [] (takes GO ∷ runs 1 GO ∷ runs 2 GO ∷ []) refl (rw g) tt (refl also refl also refl also tt) (λ e. omega arith)
       also misordered [] out_of_order [] (takes MR5 ∷ takes GO ∷ runs 1 GO ∷ []) refl (rw (mr, g)) tt (refl also refl also refl also tt) (λ e. let z = ap code_of e in omega arith)

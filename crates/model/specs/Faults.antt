@@ -1,6 +1,6 @@
 -- Histories of faulty controllers, each of which breaks the account of axis X.
 use Rattle.std.specs.Prelude.{◌≡◌, ℕ, true, false, List, [], ◌∷◌, replicate, ℤ, pos, None, codes}
-use Rattle.std.specs.List.{AllByRecursion as All}
+use Rattle.std.specs.List.{AllByRecursion}
 use Rattle.contacts.specs.declared.kill.KillInputs.{KillInputs}
 use Rattle.contacts.specs.Kills.{with_kill, no_kills}
 use Rattle.drive.specs.declared.axis.Axis.TheVariants.{X}
@@ -206,7 +206,7 @@ faults =
 
 -- The account holds of none of them.
 abbrev pub Caught : Type 0
-Caught = All (λ h. Account spots 0 idle h → ⊥) faults
+Caught = AllByRecursion (λ h. Account spots 0 idle h → ⊥) faults
 
 -- ---- a right run
 

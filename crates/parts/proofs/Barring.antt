@@ -7,7 +7,7 @@ use Rattle.queue.specs.declared.entry.Batch.{Batch}
 use Rattle.model.specs.declared.refusal.Refusal.{Refusal}
 use Rattle.model.specs.Machine.{Machine}
 use Rattle.model.specs.Controller.{Condition, fails_at, barred, or_else, barring}
-use Rattle.parts.specs.declared.machine.command.Check.{Check}
+use Rattle.parts.specs.declared.machine.commands.Check.{Check}
 use Rattle.parts.specs.Checks.{condition}
 
 module _ {S : Type 0} (m : Machine S) (batches : ℕ → Option Batch) where

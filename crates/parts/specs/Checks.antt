@@ -3,8 +3,8 @@ use Rattle.std.specs.Prelude.{List, [], ◌∷◌}
 use Rattle.queue.specs.Views.{lacks_places, lacks_count}
 use Rattle.model.specs.declared.refusal.Refusal.TheVariants as Refusals
 use Rattle.model.specs.Controller.{Condition}
-use Rattle.parts.specs.declared.machine.command.Check.{Check}
-use Rattle.parts.specs.declared.machine.command.Check.TheVariants.{Killed, Places, Count}
+use Rattle.parts.specs.declared.machine.commands.Check.{Check}
+use Rattle.parts.specs.declared.machine.commands.Check.TheVariants.{Killed, Places, Count}
 
 abbrev pub condition : Check → Condition
 condition Killed = record { fails = λ p b. p.killed; refusal = Refusals.Killed }

@@ -7,7 +7,7 @@ ghost use Rattle.model.specs.Machine.{blank, at, clear};
 ghost use Rattle.parts.specs.Views.{post_view, posts_view, machine_view, part, kills_put, advanced};
 
 mod all;
-mod command;
+mod commands;
 mod questions;
 mod sample;
 mod turn;

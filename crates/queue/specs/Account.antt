@@ -1,7 +1,7 @@
 -- The account of every history of calls on a new queue: number the placed entries from 1; in each stretch between
 -- clearings those placed are those taken, in order and with their numbers, and those left.
 use Rattle.std.specs.Prelude.{◌≡◌, ℕ, ◌+◌, Bool, true, false, List, [], ◌∷◌, ◌++◌, map, length, Some, None, Ok, Err}
-use Rattle.std.specs.List.{flat_map, AllByRecursion as All}
+use Rattle.std.specs.List.{flat_map, AllByRecursion}
 use Rattle.queue.specs.declared.entry.Entry.{Entry}
 use Rattle.queue.specs.declared.axis.Head.{Head}
 use Rattle.queue.specs.declared.history.Step.{Step}
@@ -51,7 +51,7 @@ Starts (s ∷ []) = clears s ≡ true
 Starts (s ∷ t ∷ ss) = Starts (t ∷ ss)
 
 abbrev pub Uncleared : List Step → Type 0
-Uncleared ss = All (λ s. clears s ≡ false) ss
+Uncleared ss = AllByRecursion (λ s. clears s ≡ false) ss
 
 -- The stretch `ss` after `before` was left with these entries, under their numbers.
 abbrev pub Leaves : List Step → List Step → List Head → Type 0

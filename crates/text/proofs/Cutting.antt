@@ -1,7 +1,7 @@
 -- What the reader comes to next is what the block has next, and all of it together is the block. Assumes nothing.
 use Rattle.std.proofs.Common.{◌≡◌, ℕ, zero, suc, ◌+◌, ◌-◌, ◌<◌, ◌≤◌, true, false, List, [], ◌∷◌, length, get_or, take, drop, sym, refl, ap, ◌∙◌, subst, ⊎_elim, arith, length-drop}
 use mathlib.Core.Bool.{beq}
-use Rattle.std.specs.List.{AllByRecursion as All}
+use Rattle.std.specs.List.{AllByRecursion}
 use Rattle.std.proofs.lemmas.List.{drop_all, drop-drop, take_all, length-take-le, take_rest, get_or-drop, get_or_past}
 use Rattle.std.proofs.lemmas.Bool.{cases_eq, cases_lt, eq-eqb, ne_eqb, true≢false}
 use Rattle.text.specs.Blocks.{separates, run, Cut, command, unfinished, end, start, span, cut, cut_at, after, onto, asked, pieces, Onward, Gap, Text, Found, Parted}
@@ -11,7 +11,7 @@ module _ (block : List ℕ) where
   -- a text of n bytes at s, after a gap
   found_by : (from s n : ℕ) → from ≤ s → Gap (take (s - from) (drop from block)) → n ≡ run false (drop s block) → s ≤ length block → (n ≡ 0 → Gap (drop from block)) → Found block from (cut block s n)
   found_by from s n h gap e inside none =
-      let all : All (λ b. separates b ≡ false) (take n (drop s block)) = subst (λ k. All (λ b. separates b ≡ false) (take k (drop s block))) (sym e) (run_all false (drop s block)) in
+      let all : AllByRecursion (λ b. separates b ≡ false) (take n (drop s block)) = subst (λ k. AllByRecursion (λ b. separates b ≡ false) (take k (drop s block))) (sym e) (run_all false (drop s block)) in
       let within : n ≤ length (drop s block) = omega (arith, run_within false (drop s block)) in
       let long : length (take n (drop s block)) ≡ n = length-take-le n (drop s block) within in
       let room = length-drop s block in

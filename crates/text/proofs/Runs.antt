@@ -1,7 +1,7 @@
 -- Bytes at the front of a list that are separators, or are none. Assumes nothing.
 use Rattle.std.proofs.Common.{◌≡◌, ℕ, suc, ◌+◌, ◌<◌, ◌≤◌, Bool, true, false, not, List, [], ◌∷◌, length, get_or, take, drop, sym, refl, ⊎_elim, add-one, arith, drop-cons}
 use mathlib.Core.Bool.{beq}
-use Rattle.std.specs.List.{AllByRecursion as All}
+use Rattle.std.specs.List.{AllByRecursion}
 use Rattle.std.proofs.lemmas.Bool.{cases_Bool}
 use Rattle.text.specs.Blocks.{separates, run}
 
@@ -28,7 +28,7 @@ module _ (k : Bool) where
   run_within [] = omega arith
   run_within (b ∷ bs) = ⊎_elim (λ t. rw t (omega (arith, run_within bs))) (λ f. rw f (omega arith)) (cases_Bool (beq (separates b) k))
 
-  pub run_all : (bs : List ℕ) → All (λ b. separates b ≡ k) (take (run k bs) bs)
+  pub run_all : (bs : List ℕ) → AllByRecursion (λ b. separates b ≡ k) (take (run k bs) bs)
   run_all [] = tt
   run_all (b ∷ bs) = ⊎_elim (λ t. rw t (same (separates b) k t, run_all bs)) (λ f. rw f tt) (cases_Bool (beq (separates b) k))
 

@@ -1,7 +1,7 @@
 -- How a received block is parted into texts. Assumes nothing.
 use Rattle.std.specs.Prelude.{◌≡◌, ℕ, zero, suc, ◌+◌, ◌<◌, ◌≤◌, Bool, true, false, cond, ◌||◌, List, [], ◌∷◌, length, take, drop, ◌==◌, slice_index, slice_range}
 use Rattle.std.specs.Bool.{beq}
-use Rattle.std.specs.List.{AllByRecursion as All}
+use Rattle.std.specs.List.{AllByRecursion}
 use Rattle.text.specs.declared.block.Piece.{Piece}
 use Rattle.text.specs.declared.block.Piece.TheVariants.{Command, Unfinished, End}
 
@@ -70,10 +70,10 @@ Onward end from to long = to ≡ long
 
 -- only separators; a text: some bytes, and no separator
 abbrev pub Gap : List ℕ → Type 0
-Gap bs = All (λ b. separates b ≡ true) bs
+Gap bs = AllByRecursion (λ b. separates b ≡ true) bs
 
 abbrev pub Text : List ℕ → Type 0
-Text bs = (0 < length bs) × All (λ b. separates b ≡ false) bs
+Text bs = (0 < length bs) × AllByRecursion (λ b. separates b ≡ false) bs
 
 -- What a block has next from an offset on: only separators, then a text that stands at its offset, and after it a separator,
 -- or, after an unfinished one, nothing.
