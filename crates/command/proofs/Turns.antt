@@ -3,7 +3,7 @@ use Rattle.std.proofs.Common.{◌≡◌, ℕ, suc, ◌+◌, ◌-◌, ◌^◌, �
 use Rattle.std.proofs.lemmas.List.{at_drop_more, at_drop_all, drop-drop, drop-replicate, drop-set-lt, length-drop, length-set, set_split, take_more_set}
 use Rattle.std.proofs.lemmas.Bool.{eq-eqb, ne_eqb}
 use Rattle.drive.specs.Axes.{axes, each, length-each}
-use Rattle.drive.proofs.Indices.{getD_each}
+use Rattle.drive.proofs.Indices.{get_or-each}
 use Rattle.command.specs.declared.fields.Slot.{Slot}
 use Rattle.command.specs.declared.request.Refusal.{Refusal}
 use Rattle.command.specs.declared.request.Refusal.TheVariants.{Form}
@@ -36,7 +36,7 @@ module _ {p : ℕ → Bool} {at₀ : ℕ} {bs₀ : List ℕ} {i : ℕ} {fs : Fie
     unfolding fields
     turn =
         let inside : i < length (each p) = rw length-each h in
-        ap (λ b. given (slot b at bs)) (own ∙ sym (getD_each p i false h)) ∙ sym (at_drop_more (λ ps. front (take i fs) (fields ps at bs)) (each p) i false inside) ∙ g.whole
+        ap (λ b. given (slot b at bs)) (own ∙ sym (get_or-each p i false h)) ∙ sym (at_drop_more (λ ps. front (take i fs) (fields ps at bs)) (each p) i false inside) ∙ g.whole
 
     pub refused : (e : Refusal) → Err e ≡ slot point at bs → Err e ≡ fields (each p) at₀ bs₀
     refused e is = ap given is ∙ turn

@@ -46,9 +46,9 @@ index_of i d h =
     ap index (get_or_default in_order i d X h) ∙ (Decides-below_and _ (λ k. index (get_or in_order k X) ≡ k) placed (λ k. Decides-eqb (index (get_or in_order k X)) k) refl (λ _. refl) axes).0 refl i h
 
 module _ {A : Type 0} (f : ℕ → A) where
-  pub getD_each : (k : ℕ) (d : A) → k < axes → get_or (each f) k d ≡ f k
+  pub get_or-each : (k : ℕ) (d : A) → k < axes → get_or (each f) k d ≡ f k
   unfolding each
-  getD_each k d h = get_or-map-range_with_len f 0 axes k k d h (omega arith)
+  get_or-each k d h = get_or-map-range_with_len f 0 axes k k d h (omega arith)
 
   -- a list that has f k at every axis k
   pub each_all : (xs : List A) (d : A) → length xs ≡ axes → ((k : ℕ) → k < axes → get_or xs k d ≡ f k) → xs ≡ each f

@@ -28,7 +28,7 @@ over d m = record { below = d; steps = steps_near m }
 abbrev pub with_below : {S : Type 0} → Geared S → S → Geared S
 with_below s b = record { below = b; steps = s.steps }
 
--- `quot_z` rounds toward zero
+-- `int_div` rounds toward zero
 abbrev pub geared : {S : Type 0} → Ops S → Ops (Geared S)
 geared o = record {
   position = λ s k. int_div (o.position s.below k) s.steps.value;

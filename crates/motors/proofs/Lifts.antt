@@ -10,7 +10,7 @@ use Rattle.drive.specs.declared.health.Health.{Health}
 use Rattle.drive.specs.Laws.{Keeps, Aimed, Kept}
 use Rattle.drive.specs.Range.{Between}
 use Rattle.drive.proofs.Filling.{Filled, filled_more, filled_each}
-use Rattle.drive.proofs.Indices.{getD_each}
+use Rattle.drive.proofs.Indices.{get_or-each}
 use Rattle.drive.proofs.Orders.{within_true}
 use Rattle.motors.specs.Banks.{absent_motor, with_motor, bank_of, motor_of, banked}
 use Rattle.motors.specs.Motors.{near, aimed}
@@ -98,7 +98,7 @@ banked_keeps {A} r L = record {
   halted_off = λ b k j h hj ne. others r b k j _ ne;
   advanced_at = λ b readings w k h.
       let m = motor_of r b k in
-      let e = getD_each (λ j. r.moved (motor_of r b j) (get_or readings j (pos 0)) (is_up w j)) k (absent_motor r) h in
+      let e = get_or-each (λ j. r.moved (motor_of r b j) (get_or readings j (pos 0)) (is_up w j)) k (absent_motor r) h in
       record {
         position = subst (λ (n : Motor A). Between m.position.value m.target.value n.position.value) (sym e) (L.position m (get_or readings k (pos 0)) (is_up w k));
         target = ap (λ (n : Motor A). n.target.value) e ∙ ap (λ (t : Ranged). t.value) (L.target m (get_or readings k (pos 0)) (is_up w k));

@@ -21,12 +21,12 @@ abbrev pub Nameless : {N : Type 0} → List (Row N) → List ℕ → Type 0
 Nameless {N} table bs = (i : ℕ) (r : Row N) → Stands table i r → begins r.1 bs ≡ false
 
 -- some name goes on from these bytes
-abbrev pub Goes_on : {N : Type 0} → List (Row N) → List ℕ → Type 0
-Goes_on {N} table front = (i : ℕ) × (r : Row N) × Stands table i r × (begins front r.1 ≡ true)
+abbrev pub GoesOn : {N : Type 0} → List (Row N) → List ℕ → Type 0
+GoesOn {N} table front = (i : ℕ) × (r : Row N) × Stands table i r × (begins front r.1 ≡ true)
 
 -- a name goes on up to p, and none does with the byte at p; or bs ends there
 abbrev pub Place : {N : Type 0} → List (Row N) → List ℕ → ℕ → Type 0
-Place table bs p = (p ≤ length bs) × Goes_on table (take p bs) × (p < length bs → Goes_on table (take (suc p) bs) → ⊥)
+Place table bs p = (p ≤ length bs) × GoesOn table (take p bs) × (p < length bs → GoesOn table (take (suc p) bs) → ⊥)
 
 pub record Lawful {N : Type 0} (table : List (Row N)) : Type 0 where
   -- a text has at most one name
