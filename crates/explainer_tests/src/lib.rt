@@ -1,4 +1,4 @@
-//! Runs the worked examples of `lint`, for each of its three readings.
+//! Runs the worked examples of `explain`, for each of its three readings.
 #![tactic(auto)]
 
 #[cfg(test)]
