@@ -59,11 +59,13 @@ fn main() -> ExitCode {
 }
 
 fn compare(options: &Options) -> Result<String, Stop> {
+    let replay = options.replay.as_deref().map(Product::find).transpose();
     let pair = Pair {
-        replay: Product::find(&options.replay).map_err(Stop::Error)?,
+        replay: replay.map_err(Stop::Error)?,
         axes: Product::find(&options.axes).map_err(Stop::Error)?,
     };
-    let scripts = fixed::load(&options.fixed).map_err(Stop::Error)?;
+    let mut scripts = fixed::load(&options.fixed).map_err(Stop::Error)?;
+    scripts.retain(|script| pair.has(script.program));
     let mut calls = 0;
     for script in &scripts {
         calls += compare_fixed(&pair, script)?;
@@ -73,7 +75,7 @@ fn compare(options: &Options) -> Result<String, Stop> {
     if options.verbose {
         print!("{}", random.coverage.table());
     }
-    if options.first.is_none() {
+    if options.first.is_none() && pair.has(Program::Replay) {
         check_coverage(&random.coverage)?;
     }
     Ok(format!(
@@ -84,23 +86,29 @@ fn compare(options: &Options) -> Result<String, Stop> {
     ))
 }
 
-/// The product's two programs.
+/// The product's two programs; `replay` may not be there.
 struct Pair {
-    replay: Product,
+    replay: Option<Product>,
     axes: Product,
 }
 
 impl Pair {
-    fn product(&self, program: Program) -> &Product {
+    fn product(&self, program: Program) -> Option<&Product> {
         match program {
-            Program::Replay => &self.replay,
-            Program::Axes => &self.axes,
+            Program::Replay => self.replay.as_ref(),
+            Program::Axes => Some(&self.axes),
         }
+    }
+
+    fn has(&self, program: Program) -> bool {
+        self.product(program).is_some()
     }
 
     /// Runs an input through the reference and the product.
     fn run(&self, program: Program, input: &[u8], patience: Duration) -> Result<Both, Stop> {
-        let product = self.product(program);
+        let product = self
+            .product(program)
+            .ok_or_else(|| Stop::Error(format!("{} is not there", program.name())))?;
         thread::scope(|scope| {
             let running = scope.spawn(|| product.run(input, patience));
             let (reference, coverage) = program.reference(input);
@@ -207,6 +215,8 @@ fn compare_fixed(pair: &Pair, script: &Fixed) -> Result<u64, Stop> {
 /// What the random scripts came to.
 #[derive(Default)]
 struct Tally {
+    /// The random scripts gone over, compared or not.
+    numbers: u64,
     scripts: u64,
     axes_inputs: u64,
     axes_calls: u64,
@@ -218,15 +228,18 @@ fn compare_random(pair: &Pair, options: &Options) -> Result<Tally, Stop> {
     let mut told = 0;
     loop {
         let batch = match options.extent {
-            Extent::Scripts(scripts) => BATCH.min(scripts - tally.scripts),
+            Extent::Scripts(scripts) => BATCH.min(scripts - tally.numbers),
             Extent::Calls(calls) if tally.coverage.calls() + tally.axes_calls < calls => BATCH,
             Extent::Calls(_) => 0,
         };
         if batch == 0 {
             return Ok(tally);
         }
-        let first = options.first.unwrap_or(0) + tally.scripts;
-        compare_batch(pair, options, first..first + batch, &mut tally)?;
+        let first = options.first.unwrap_or(0) + tally.numbers;
+        tally.numbers += batch;
+        if pair.has(Program::Replay) {
+            compare_batch(pair, options, first..first + batch, &mut tally)?;
+        }
         for number in (first..first + batch).filter(|number| number % SCRIPTS_TO_AXES == 0) {
             compare_axes(pair, options, number, &mut tally)?;
         }

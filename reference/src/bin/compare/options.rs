@@ -6,7 +6,7 @@ use reference::fixed;
 
 pub const USAGE: &str = "\
 usage: compare REPLAY AXES [options]
-  REPLAY, AXES   the product's programs of these names
+  REPLAY, AXES   the product's programs of these names; - for REPLAY: AXES alone is compared
   --scripts N    compare N random scripts (2000 if not said)
   --calls N      compare random scripts until N calls were made
   --seed S       the seed of the random scripts (1 if not said)
@@ -24,7 +24,8 @@ pub enum Extent {
 
 #[derive(Clone, PartialEq, Eq, Debug)]
 pub struct Options {
-    pub replay: PathBuf,
+    /// None: `axes` alone is compared.
+    pub replay: Option<PathBuf>,
     pub axes: PathBuf,
     pub extent: Extent,
     pub seed: u64,
@@ -39,7 +40,7 @@ impl Options {
     pub fn parse(mut arguments: impl Iterator<Item = String>) -> Result<Options, String> {
         let mut paths = Vec::new();
         let mut options = Options {
-            replay: PathBuf::new(),
+            replay: None,
             axes: PathBuf::new(),
             extent: Extent::Scripts(2000),
             seed: 1,
@@ -71,7 +72,7 @@ impl Options {
         let [replay, axes] = <[PathBuf; 2]>::try_from(paths)
             .map_err(|paths| format!("two programs are wanted, {} are named", paths.len()))?;
         Ok(Options {
-            replay,
+            replay: (replay.as_os_str() != "-").then_some(replay),
             axes,
             ..options
         })
@@ -94,10 +95,11 @@ mod tests {
     #[test]
     fn what_is_named_and_what_is_not() {
         let options = parse("a --calls 5 b --seed 9").expect("right arguments");
-        assert_eq!(options.replay, PathBuf::from("a"));
+        assert_eq!(options.replay, Some(PathBuf::from("a")));
         assert_eq!(options.axes, PathBuf::from("b"));
         assert_eq!((options.extent, options.seed), (Extent::Calls(5), 9));
         assert_eq!(parse("a b").map(|o| o.extent), Ok(Extent::Scripts(2000)));
+        assert_eq!(parse("- b").map(|o| o.replay), Ok(None));
     }
 
     #[test]
