@@ -6,6 +6,7 @@ use crate::word::{Contact, with_bit};
 
 /// Which contacts kill, and the level at which each does.
 /// A contact that does not kill has level 0, so that equal sets are equal values.
+/// Two words, and no array of options: three bit operations judge a sampled word by them.
 #[derive(Clone, Copy)]
 pub struct KillInputs {
     contacts: u16,

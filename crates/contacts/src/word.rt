@@ -1,5 +1,5 @@
 //! A contact's number, and its bit in a word of contacts.
-ghost use Rattle.std.specs.Prelude.{◌≡◌, ℕ, ◌^◌, ◌<◌, true, false, if◌then◌else◌, nat_eq};
+ghost use Rattle.std.specs.Prelude.{◌≡◌, ℕ, ◌^◌, ◌<◌, if◌then◌else◌, nat_eq};
 ghost use Rattle.contacts.specs.Words.{contact_count, contact_of, bit, written};
 
 /// How many contacts a word has.
@@ -43,24 +43,8 @@ pub fn with_bit(word: u16, at: Contact, level: bool) -> u16
     ensures bits { (b : ℕ) → bit result b ≡ (if nat_eq b at.number then level else bit word b) }
 {
     if level {
-        raised(word, at)
+        word | at.mask()
     } else {
-        lowered(word, at)
+        word & !at.mask()
     }
-}
-
-/// The word with the contact made 1.
-fn raised(word: u16, at: Contact) -> u16
-    ensures value { result ≡ written word at.number true }
-    ensures bits { (b : ℕ) → bit result b ≡ (if nat_eq b at.number then true else bit word b) }
-{
-    word | at.mask()
-}
-
-/// The word with the contact made 0.
-fn lowered(word: u16, at: Contact) -> u16
-    ensures value { result ≡ written word at.number false }
-    ensures bits { (b : ℕ) → bit result b ≡ (if nat_eq b at.number then false else bit word b) }
-{
-    word & !at.mask()
 }

@@ -1,6 +1,7 @@
 -- The laws of a table whose names are apart. Assumes nothing.
-use Rattle.std.proofs.Common.{◌≡◌, ℕ, zero, suc, ◌<◌, ◌≤◌, true, false, eqb, ◌⊎◌, List, [], ◌∷◌, map, length, take, Some, None, Err, Option, sym, refl, ap, ◌∙◌, subst, inl, inr, ⊎_elim, arith}
-use Rattle.std.proofs.lemmas.Bool.{and_parts, and_from, both_ways, cases_Bool, cases_lt, false≢true, eq-eqb, eqb-true}
+use Rattle.std.proofs.Common.{◌≡◌, ℕ, zero, suc, ◌<◌, ◌≤◌, true, false, ◌⊎◌, List, [], ◌∷◌, map, length, take, Some, None, Err, Option, sym, refl, ap, ◌∙◌, subst, inl, inr, ⊎_elim, arith}
+use Rattle.std.proofs.lemmas.Bool.{both_ways, cases_Bool, cases_lt}
+use Rattle.std.proofs.lemmas.Bool.Decides.{nat_tests}
 use Rattle.std.specs.Option.{option_map, ok_or}
 use Rattle.names.specs.Tables.{Row, upper, begins, along, leading, reach, cut, named}
 use Rattle.names.specs.Laws.{Stands, Apart, Nameless, Place, Lawful, ApartIsLawful}
@@ -9,60 +10,46 @@ use Rattle.names.specs.Laws.{Stands, Apart, Nameless, Place, Lawful, ApartIsLawf
 one_begins : (a b bs : List ℕ) → begins a bs ≡ true → begins b bs ≡ true → (begins a b ≡ true) ⊎ (begins b a ≡ true)
 one_begins [] b bs ha hb = inl refl
 one_begins (n ∷ a) [] bs ha hb = inr refl
-one_begins (n ∷ a) (m ∷ b) [] ha hb = absurd (false≢true ha)
-one_begins (n ∷ a) (m ∷ b) (c ∷ bs) ha hb =
-    let pa = and_parts (eqb c n) (begins a bs) ha in
-    let pb = and_parts (eqb c m) (begins b bs) hb in
-    let e : n ≡ m = sym (eqb-true c n pa.0) ∙ eqb-true c m pb.0 in
-    ⊎_elim
-    (λ t. inl (and_from (eqb m n) (begins a b) (eq-eqb m n (sym e)) t))
-    (λ t. inr (and_from (eqb n m) (begins b a) (eq-eqb n m e) t))
-    (one_begins a b bs pa.1 pb.1)
+one_begins (n ∷ a) (m ∷ b) [] ha hb = grind arith
+one_begins (n ∷ a) (m ∷ b) (c ∷ bs) ha hb = let h = one_begins a b bs in grind (arith, nat_tests)
 
 -- the bytes that go along a name are a front of it, and no longer front is
-along_le : (ns bs : List ℕ) → along ns bs ≤ length bs
+pub along_le : (ns bs : List ℕ) → along ns bs ≤ length bs
 along_le [] bs = omega arith
 along_le (n ∷ ns) [] = omega arith
-along_le (n ∷ ns) (b ∷ bs) = let h = along_le ns bs in grind arith
+along_le (n ∷ ns) (b ∷ bs) = let h = along_le ns bs in grind (arith, nat_tests)
 
 along_front : (ns bs : List ℕ) → begins (take (along ns bs) bs) ns ≡ true
 along_front [] bs = refl
 along_front (n ∷ ns) [] = refl
-along_front (n ∷ ns) (b ∷ bs) =
-    ⊎_elim
-    (λ (t : eqb b n ≡ true). rw t (and_from (eqb n b) (begins (take (along ns bs) bs) ns) (eq-eqb n b (sym (eqb-true b n t))) (along_front ns bs)))
-    (λ (f : eqb b n ≡ false). rw f refl)
-    (cases_Bool (eqb b n))
+along_front (n ∷ ns) (b ∷ bs) = let h = along_front ns bs in grind (arith, nat_tests)
 
 along_most : (ns bs : List ℕ) (k : ℕ) → k ≤ length bs → begins (take k bs) ns ≡ true → k ≤ along ns bs
 along_most ns bs zero l h = omega arith
 along_most ns [] (suc k) l h = absurd (omega arith)
-along_most [] (b ∷ bs) (suc k) l h = absurd (false≢true h)
-along_most (n ∷ ns) (b ∷ bs) (suc k) l h =
-    let p = and_parts (eqb n b) (begins (take k bs) ns) h in
-    rw (eq-eqb b n (sym (eqb-true n b p.0))) (omega (arith, along_most ns bs k (omega arith) p.1))
+along_most [] (b ∷ bs) (suc k) l h = grind arith
+along_most (n ∷ ns) (b ∷ bs) (suc k) l h = let m = along_most ns bs k (omega arith) in grind (arith, nat_tests)
 
 shorter : (k m : ℕ) (bs ns : List ℕ) → k ≤ m → begins (take m bs) ns ≡ true → begins (take k bs) ns ≡ true
 shorter zero m bs ns l h = refl
 shorter (suc k) zero bs ns l h = absurd (omega arith)
 shorter (suc k) (suc m) [] ns l h = h
 shorter (suc k) (suc m) (b ∷ bs) [] l h = h
-shorter (suc k) (suc m) (b ∷ bs) (n ∷ ns) l h =
-    let p = and_parts (eqb n b) (begins (take m bs) ns) h in and_from (eqb n b) (begins (take k bs) ns) p.0 (shorter k m bs ns (omega arith) p.1)
+shorter (suc k) (suc m) (b ∷ bs) (n ∷ ns) l h = let s = shorter k m bs ns (omega arith) in grind (arith, nat_tests)
 
 which : {X : Type 0} (o : Option X) → (o ≡ None) ⊎ ((x : X) × (o ≡ Some x))
 which None = inl refl
 which (Some x) = inr (x, refl)
 
 module _ {N : Type 0} where
-  same_row : (table : List (Row N)) (i : ℕ) (r s : Row N) → Stands table i r → Stands table i s → r ≡ s
+  pub same_row : (table : List (Row N)) (i : ℕ) (r s : Row N) → Stands table i r → Stands table i s → r ≡ s
   same_row [] i r s hr hs = absurd hr
-  same_row (q ∷ rows) zero r s hr hs = sym hr ∙ hs
+  same_row (q ∷ rows) zero r s hr hs = cc
   same_row (q ∷ rows) (suc i) r s hr hs = same_row rows i r s hr hs
 
   -- the row that leads stands in the table, and none leads where there is no name
   leads : (rows : List (Row N)) (bs : List ℕ) (r : Row N) → leading rows bs ≡ Some r → (i : ℕ) × Stands rows i r × (begins r.1 bs ≡ true)
-  leads [] bs r h = let z : ◌≡◌ {A = ℕ} 0 1 = cc in absurd (omega arith)
+  leads [] bs r h = absurd (cc)
   leads (q ∷ rows) bs r h =
       ⊎_elim
       (λ (t : begins q.1 bs ≡ true). let e : q ≡ r = cc (rw t at h) in (0, e, subst (λ (x : Row N). begins x.1 bs ≡ true) e t))
@@ -71,20 +58,17 @@ module _ {N : Type 0} where
 
   none_leads : (rows : List (Row N)) (bs : List ℕ) → leading rows bs ≡ None → Nameless rows bs
   none_leads [] bs h i r st = absurd st
-  none_leads (q ∷ rows) bs h i r st =
-      ⊎_elim
-      (λ (t : begins q.1 bs ≡ true). let z : Some q ≡ None = rw t at h in cc)
-      (λ (f : begins q.1 bs ≡ false). elim i as (λ k. Stands (q ∷ rows) k r → begins r.1 bs ≡ false) [ zero ↦ λ e. rw e at f | suc k ↦ none_leads rows bs (rw f at h) k r ] st)
-      (cases_Bool (begins q.1 bs))
+  none_leads (q ∷ rows) bs h zero r st = grind arith
+  none_leads (q ∷ rows) bs h (suc i) r st = let k = none_leads rows bs in grind arith
 
   leads_none : (rows : List (Row N)) (bs : List ℕ) → Nameless rows bs → leading rows bs ≡ None
-  leads_none rows bs h =
-      ⊎_elim (λ e. e) (λ p. let l = leads rows bs p.0 p.1 in absurd (both_ways _ (h l.0 p.0 l.1) l.2)) (which (leading rows bs))
+  leads_none [] bs h = refl
+  leads_none (q ∷ rows) bs h = let here = h 0 q refl in let k = leads_none rows bs (λ i. h (suc i)) in grind arith
 
   -- how far the bytes go along some name
   reach_most : (rows : List (Row N)) (bs : List ℕ) (i : ℕ) (r : Row N) → Stands rows i r → along r.1 bs ≤ reach rows bs
   reach_most [] bs i r st = absurd st
-  reach_most (q ∷ rows) bs zero r st = let e : along q.1 bs ≡ along r.1 bs = ap (λ x. along x.1 bs) st in omega arith
+  reach_most (q ∷ rows) bs zero r st = grind arith
   reach_most (q ∷ rows) bs (suc i) r st = omega (arith, reach_most rows bs i r st)
 
   reach_some : (rows : List (Row N)) (bs : List ℕ) → 0 < length rows → (i : ℕ) × (r : Row N) × Stands rows i r × (along r.1 bs ≡ reach rows bs)
@@ -145,14 +129,14 @@ module _ {N : Type 0} where
           found =
               λ text x h.
               ⊎_elim
-              (λ none. let z : ◌≡◌ {A = ℕ} 0 1 = cc (by_lead text None none) in absurd (omega arith))
+              (λ none. absurd (cc (by_lead text None none)))
               (λ p. let l = leads table (map upper text) p.0 p.1 in (l.0, p.0, l.1, l.2, cc (by_lead text (Some p.0) p.1)))
               (which (leading table (map upper text)));
           refused =
               λ text p h.
               ⊎_elim
               (λ none. let e : reach table (map upper text) ≡ p = cc (by_lead text None none) in (none_leads table (map upper text) none, subst (Place table (map upper text)) e (place table (map upper text) some)))
-              (λ q. let z : ◌≡◌ {A = ℕ} 0 1 = cc (by_lead text (Some q.0) q.1) in absurd (omega arith))
+              (λ q. absurd (cc (by_lead text (Some q.0) q.1)))
               (which (leading table (map upper text)));
           refuses = λ text p no pl. by_lead text None (leads_none table (map upper text) no) ∙ ap (λ k. Err k) (sym (one_place table (map upper text) some p pl));
         }

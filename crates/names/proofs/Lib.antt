@@ -1,3 +1,3 @@
 pub mod ByPlace
-pub mod Tested
 pub mod Lawful
+pub mod Rests

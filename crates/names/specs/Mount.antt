@@ -1,11 +1,13 @@
 -- The names of port M.
-use Rattle.std.specs.Prelude.{ℕ, List, [], ◌∷◌, ◌++◌, map, codes}
-use Rattle.names.specs.declared.mount.Name.{Name}
-use Rattle.names.specs.declared.mount.Name.TheVariants.{Ax, Ay, Az, At, Au, Av, Ar, As, Aa, Ma, Mr, Go, Bh, Bl, Sw, Bw, Kl, Ks, Fl, Rp, Rqc, HashEr}
-use Rattle.names.specs.Tables.{Row}
+use Rattle.std.specs.Prelude.{ℕ, List, [], ◌∷◌, ◌++◌, codes, refl}
+use Rattle.names.specs.declared.mount.MountName.{MountName}
+use Rattle.names.specs.declared.mount.MountName.TheVariants.{Ax, Ay, Az, At, Au, Av, Ar, As, Aa, Ma, Mr, Go, Bh, Bl, Sw, Bw, Kl, Ks, Fl, Rp, Rqc, HashEr}
+use Rattle.names.specs.Tables.{Row, rows}
+use Rattle.names.specs.Laws.{Apart, InOrder}
+use Rattle.names.specs.Tested.{apart_by_test}
 
 -- the row of each name in the table, counted from 0, and its bytes
-abbrev pub spelling : Name → ℕ × List ℕ
+abbrev pub spelling : MountName → ℕ × List ℕ
 spelling Ax = (0, codes "AX")
 spelling Ay = (1, codes "AY")
 spelling Az = (2, codes "AZ")
@@ -29,30 +31,35 @@ spelling Rp = (19, codes "RP")
 spelling Rqc = (20, codes "RQC")
 spelling HashEr = (21, codes "#ER")
 
-abbrev pub index : Name → ℕ
+abbrev pub index : MountName → ℕ
 index n = (spelling n).0
 
-abbrev pub letters : Name → List ℕ
+abbrev pub letters : MountName → List ℕ
 letters n = (spelling n).1
 
-abbrev rows : List Name → List (Row Name)
-rows = map (λ n. (n, letters n))
-
 -- the names that select an axis, or all
-abbrev pub selections : List (Row Name)
-selections = rows (Ax ∷ Ay ∷ Az ∷ At ∷ Au ∷ Av ∷ Ar ∷ As ∷ Aa ∷ [])
+abbrev pub selections : List (Row MountName)
+selections = rows letters (Ax ∷ Ay ∷ Az ∷ At ∷ Au ∷ Av ∷ Ar ∷ As ∷ Aa ∷ [])
 
 -- the names of queue entries
-abbrev pub entries : List (Row Name)
-entries = rows (Ma ∷ Mr ∷ Go ∷ Bh ∷ Bl ∷ Sw ∷ Bw ∷ [])
+abbrev pub entries : List (Row MountName)
+entries = rows letters (Ma ∷ Mr ∷ Go ∷ Bh ∷ Bl ∷ Sw ∷ Bw ∷ [])
 
 -- the names that clear axes
-abbrev pub clearings : List (Row Name)
-clearings = rows (Kl ∷ Ks ∷ Fl ∷ [])
+abbrev pub clearings : List (Row MountName)
+clearings = rows letters (Kl ∷ Ks ∷ Fl ∷ [])
 
 -- the names that are answered
-abbrev pub questions : List (Row Name)
-questions = rows (Rp ∷ Rqc ∷ HashEr ∷ [])
+abbrev pub questions : List (Row MountName)
+questions = rows letters (Rp ∷ Rqc ∷ HashEr ∷ [])
 
-unfoldable pub mount_names : List (Row Name)
+unfoldable pub mount_names : List (Row MountName)
 mount_names = selections ++ entries ++ clearings ++ questions
+
+pub mount_apart : Apart mount_names
+unfolding mount_names
+mount_apart = apart_by_test mount_names refl
+
+pub mount_in_order : InOrder mount_names index letters
+unfolding mount_names
+mount_in_order = elim [ Ax ↦ refl | Ay ↦ refl | Az ↦ refl | At ↦ refl | Au ↦ refl | Av ↦ refl | Ar ↦ refl | As ↦ refl | Aa ↦ refl | Ma ↦ refl | Mr ↦ refl | Go ↦ refl | Bh ↦ refl | Bl ↦ refl | Sw ↦ refl | Bw ↦ refl | Kl ↦ refl | Ks ↦ refl | Fl ↦ refl | Rp ↦ refl | Rqc ↦ refl | HashEr ↦ refl ]

@@ -1,8 +1,10 @@
 -- The names of Set.
-use Rattle.std.specs.Prelude.{ℕ, List, [], ◌∷◌, ◌++◌, map, codes}
+use Rattle.std.specs.Prelude.{ℕ, List, [], ◌∷◌, ◌++◌, codes, refl}
 use Rattle.names.specs.declared.setting.SettingName.{SettingName}
 use Rattle.names.specs.declared.setting.SettingName.TheVariants.{Ax, Ay, Az, At, Au, Av, Ar, As, Uu, Uf, Iok}
-use Rattle.names.specs.Tables.{Row}
+use Rattle.names.specs.Tables.{Row, rows}
+use Rattle.names.specs.Laws.{Apart, InOrder}
+use Rattle.names.specs.Tested.{apart_by_test}
 
 -- the row of each name in the table, counted from 0, and its bytes
 abbrev pub spelling : SettingName → ℕ × List ℕ
@@ -24,16 +26,21 @@ index n = (spelling n).0
 abbrev pub letters : SettingName → List ℕ
 letters n = (spelling n).1
 
-abbrev rows : List SettingName → List (Row SettingName)
-rows = map (λ n. (n, letters n))
-
 -- the names that select an axis
 abbrev pub selections : List (Row SettingName)
-selections = rows (Ax ∷ Ay ∷ Az ∷ At ∷ Au ∷ Av ∷ Ar ∷ As ∷ [])
+selections = rows letters (Ax ∷ Ay ∷ Az ∷ At ∷ Au ∷ Av ∷ Ar ∷ As ∷ [])
 
 -- the names that change the axis
 abbrev pub changes : List (Row SettingName)
-changes = rows (Uu ∷ Uf ∷ Iok ∷ [])
+changes = rows letters (Uu ∷ Uf ∷ Iok ∷ [])
 
 unfoldable pub setting_names : List (Row SettingName)
 setting_names = selections ++ changes
+
+pub setting_apart : Apart setting_names
+unfolding setting_names
+setting_apart = apart_by_test setting_names refl
+
+pub setting_in_order : InOrder setting_names index letters
+unfolding setting_names
+setting_in_order = elim [ Ax ↦ refl | Ay ↦ refl | Az ↦ refl | At ↦ refl | Au ↦ refl | Av ↦ refl | Ar ↦ refl | As ↦ refl | Uu ↦ refl | Uf ↦ refl | Iok ↦ refl ]

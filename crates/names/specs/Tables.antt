@@ -6,6 +6,10 @@ use Rattle.names.specs.declared.Named.{Named}
 abbrev pub Row : Type 0 → Type 0
 Row N = N × List ℕ
 
+-- the rows of these names
+abbrev pub rows : {N : Type 0} → (N → List ℕ) → List N → List (Row N)
+rows letters = map (λ n. (n, letters n))
+
 -- a letter in upper case, any other byte as it is
 abbrev pub upper : ℕ → ℕ
 upper b = cond (nat_le 97 b && nat_le b 122) (b - 32) b

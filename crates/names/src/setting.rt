@@ -1,13 +1,13 @@
-// The names of Set.
-ghost use Rattle.std.specs.Prelude.{◌≡◌, ◌++◌};
-ghost use Rattle.names.specs.Tables.{named, seen};
-ghost use Rattle.names.specs.Laws.{Apart, InOrder};
-ghost use Rattle.names.specs.Places.{held, lead, stop};
-ghost use Rattle.names.specs.Setting.{letters, index, selections, changes, setting_names};
+//! The names of Set.
+//! By a rule of the project slice patterns match their bytes.
+ghost use Rattle.std.specs.Prelude.{◌≡◌};
+ghost use Rattle.names.specs.Places.{held, lead};
+ghost use Rattle.names.specs.Setting.{letters, index, selections, changes, setting_names, setting_apart, setting_in_order};
 
-use crate::Named;
+use crate::Name;
 
-#[derive(Clone, Copy)]
+/// A name of Set.
+#[derive(Clone, Copy, Debug, PartialEq, Eq)]
 pub enum SettingName {
     Ax,
     Ay,
@@ -22,18 +22,22 @@ pub enum SettingName {
     Iok,
 }
 
-impl SettingName {
-    // The name's row in the table, counted from 0.
-    pub fn index(self) -> usize
-        ensures { result ≡ index self }
-    {
+impl Name for SettingName {
+    ghost table = { setting_names };
+
+    ghost index = { index };
+
+    ghost letters = { letters };
+
+    ghost apart = { setting_apart };
+
+    ghost in_order = { setting_in_order };
+
+    fn index(self) -> usize {
         self as usize
     }
 
-    // The name's bytes.
-    pub fn letters(self) -> &'static str
-        ensures { result.now ≡ letters self }
-    {
+    fn letters(self) -> &'static str {
         match self {
             SettingName::Ax => "AX",
             SettingName::Ay => "AY",
@@ -48,9 +52,24 @@ impl SettingName {
             SettingName::Iok => "IOK",
         }
     }
+
+    #[tactic(auto, using(crate::proofs::ByPlace::lead_append), unfolding(crate::specs::Setting::setting_names))]
+    fn leading(text: &[u8]) -> Option<(SettingName, &[u8])> {
+        selection(text).or_else(|| change(text))
+    }
+
+    #[tactic(auto, unfolding(crate::specs::Setting::setting_names))]
+    fn misfit(text: &[u8]) -> usize {
+        match text {
+            [b'I' | b'i', b'O' | b'o', ..] => 2,
+            [b'A' | b'a' | b'U' | b'u' | b'I' | b'i', ..] => 1,
+            _ => 0,
+        }
+    }
 }
 
-// The names that select an axis.
+/// The names that select an axis.
+// Port M has these eight too: one helper for both would have to list the variants of each enum again.
 fn selection(text: &[u8]) -> Option<(SettingName, &[u8])>
     ensures { held result ≡ lead selections text.now }
 {
@@ -67,7 +86,7 @@ fn selection(text: &[u8]) -> Option<(SettingName, &[u8])>
     }
 }
 
-// The names that change the axis.
+/// The names that change the axis.
 fn change(text: &[u8]) -> Option<(SettingName, &[u8])>
     ensures { held result ≡ lead changes text.now }
 {
@@ -77,36 +96,4 @@ fn change(text: &[u8]) -> Option<(SettingName, &[u8])>
         [b'I' | b'i', b'O' | b'o', b'K' | b'k', rest @ ..] => Some((SettingName::Iok, rest)),
         _ => None,
     }
-}
-
-// How far a text that no name leads goes along a name.
-fn misfit(text: &[u8]) -> usize
-    ensures { result ≡ stop (selections ++ changes) text.now }
-{
-    match text {
-        [b'I' | b'i', b'O' | b'o', ..] => 2,
-        [b'A' | b'a' | b'U' | b'u' | b'I' | b'i', ..] => 1,
-        _ => 0,
-    }
-}
-
-// The name that leads the text, and the operands after it; else the place of the first byte with which no name goes on.
-pub fn setting_name_of(text: &[u8]) -> Result<Named<'_, SettingName>, usize>
-    ensures { seen result ≡ named setting_names text.now }
-{
-    if let Some((name, rest)) = selection(text) {
-        Ok(Named { name, rest })
-    } else if let Some((name, rest)) = change(text) {
-        Ok(Named { name, rest })
-    } else {
-        Err(misfit(text))
-    }
-}
-
-// No name begins or equals another, and each stands in the row that its index says.
-pub fn setting_table_stands() -> u8
-    ensures apart { Apart setting_names }
-    ensures rows { InOrder setting_names index letters }
-{
-    0
 }

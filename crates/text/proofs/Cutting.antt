@@ -3,16 +3,17 @@ use Rattle.std.proofs.Common.{◌≡◌, ℕ, zero, suc, ◌+◌, ◌-◌, ◌<�
 use mathlib.Core.Bool.{beq}
 use Rattle.std.specs.List.{AllByRecursion}
 use Rattle.std.proofs.lemmas.List.{drop_all, drop-drop, take_all, length-take-le, take_rest, get_or-drop, get_or_past}
+use Rattle.std.proofs.lemmas.List.Sums.{prefix_len-le-length, prefix_len-drop_yes}
 use Rattle.std.proofs.lemmas.Bool.{cases_eq, cases_lt, eq-eqb, ne_eqb, true≢false}
 use Rattle.text.specs.Blocks.{separates, run, Cut, command, unfinished, end, start, span, cut, cut_at, after, onto, asked, pieces, Onward, Gap, Text, Found, Parted}
-use Rattle.text.proofs.Runs.{run_within, run_all, run_ends, run_more}
+use Rattle.text.proofs.Runs.{run_all, run_ends}
 
 module _ (block : List ℕ) where
   -- a text of n bytes at s, after a gap
   found_by : (from s n : ℕ) → from ≤ s → Gap (take (s - from) (drop from block)) → n ≡ run false (drop s block) → s ≤ length block → (n ≡ 0 → Gap (drop from block)) → Found block from (cut block s n)
   found_by from s n h gap e inside none =
       let all : AllByRecursion (λ b. separates b ≡ false) (take n (drop s block)) = subst (λ k. AllByRecursion (λ b. separates b ≡ false) (take k (drop s block))) (sym e) (run_all false (drop s block)) in
-      let within : n ≤ length (drop s block) = omega (arith, run_within false (drop s block)) in
+      let within : n ≤ length (drop s block) = omega (arith, prefix_len-le-length (λ b. beq (separates b) false) (drop s block)) in
       let long : length (take n (drop s block)) ≡ n = length-take-le n (drop s block) within in
       let room = length-drop s block in
       ⊎_elim
@@ -34,7 +35,7 @@ module _ (block : List ℕ) where
       ⊎_elim
       (λ (more : run true bs < length bs).
       let t : beq (separates (get_or bs (run true bs) 0)) false ≡ true = rw (run_ends true bs more) in
-      absurd (omega (arith, run_more false bs (run true bs) more t)))
+      absurd (omega (arith, prefix_len-drop_yes (λ b. beq (separates b) false) bs (run true bs) 0 more t)))
       (λ (all : length bs ≤ run true bs). subst Gap (take_all (run true bs) bs all) (run_all true bs))
       (cases_lt (run true bs) (length bs))
 
@@ -42,7 +43,7 @@ module _ (block : List ℕ) where
   found from inside =
       let bs = drop from block in
       let g : start block from - from ≡ run true bs = omega arith in
-      found_by from (start block from) (span block from) (omega arith) (rw g (run_all true bs)) refl (omega (arith, run_within true bs, length-drop from block))
+      found_by from (start block from) (span block from) (omega arith) (rw g (run_all true bs)) refl (omega (arith, prefix_len-le-length (λ b. beq (separates b) true) bs, length-drop from block))
       (λ e. only_gap bs (ap (run false) (drop-drop (run true bs) from block) ∙ e))
 
   -- the bytes that are left are fewer after each text

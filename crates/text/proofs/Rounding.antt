@@ -1,8 +1,7 @@
 -- A quotient, rounded to the nearest. Assumes nothing.
-use Rattle.std.proofs.Common.{◌≡◌, ℕ, zero, suc, ◌+◌, ◌*◌, ◌/◌, ◌%◌, ◌^◌, ◌<◌, ◌≤◌, true, leb, ℤ, pos, negsuc, ◌-ℤ◌, ◌*ℤ◌, neg_ℤ, nat_abs, ◌<ℤ◌, sym, refl, ap, ◌∙◌, mod-lt, add-mul, mul-le-mul, one-mul, div-add-mod', zero-mul, arith, w64, SFits, to_z, of_z}
+use Rattle.std.proofs.Common.{◌≡◌, ℕ, zero, suc, ◌+◌, ◌*◌, ◌/◌, ◌%◌, ◌^◌, ◌<◌, ◌≤◌, ℤ, pos, negsuc, ◌*ℤ◌, neg_ℤ, nat_abs, sym, refl, ap, ◌∙◌, mod-lt, add-mul, mul-le-mul, one-mul, div-add-mod', zero-mul, arith, w64, SFits, to_z, of_z}
 use native.Mathlib.Nat.{pow-le-pow_right}
 use lib.IntN.{pos-*ℤ-pos, pos-*ℤ-negsuc, negsuc-*ℤ-pos, negsuc-*ℤ-negsuc, zero-*ℤ}
-use lib.Signed.{quot_z, rem_z}
 use Rattle.std.proofs.lemmas.Int.{ints, to_z-of_z}
 use Rattle.std.proofs.lemmas.Bool.{cond_both, leb-true, leb-false}
 use Rattle.text.specs.Scaling.{rounds_up, rounded, nearest, Nearest}
@@ -31,11 +30,6 @@ times a b h g =
 
 pub ten_fits : (i : ℕ) → i ≤ 18 → 10 ^ i ≤ 10 ^ 18
 ten_fits i h = pow-le-pow_right {n = 10} (omega arith) {i = i} {j = 18} h
-
--- below zero, one more is one less
-pub down : (p : ℤ) (d : ℕ) → p <ℤ pos 0 → rounds_up (nat_abs (rem_z p (pos d))) d ≡ true → quot_z p (pos d) -ℤ pos 1 ≡ nearest p d
-down (pos n) d h up = absurd (omega (arith, ints))
-down (negsuc n) d h up = let more : leb d (2 * (suc n % d)) ≡ true = rw nat_abs_neg at up in rw more (omega (arith, ints))
 
 -- a count times d that lies at most half of d from n, and above it where it lies as far
 module _ (n d : ℕ) (some : 0 < d) where

@@ -1,7 +1,7 @@
 -- How a received block is parted into texts. Assumes nothing.
 use Rattle.std.specs.Prelude.{◌≡◌, ℕ, zero, suc, ◌+◌, ◌<◌, ◌≤◌, Bool, true, false, cond, ◌||◌, List, [], ◌∷◌, length, take, drop, ◌==◌, slice_index, slice_range}
 use Rattle.std.specs.Bool.{beq}
-use Rattle.std.specs.List.{AllByRecursion}
+use Rattle.std.specs.List.{AllByRecursion, prefix_len}
 use Rattle.text.specs.declared.block.Piece.{Piece}
 use Rattle.text.specs.declared.block.Piece.TheVariants.{Command, Unfinished, End}
 
@@ -22,8 +22,7 @@ seen End = end
 
 -- how many bytes at the front are separators, or are none
 abbrev pub run : Bool → List ℕ → ℕ
-run separators [] = 0
-run separators (b ∷ bs) = cond (beq (separates b) separators) (suc (run separators bs)) 0
+run separators bs = prefix_len (λ b. beq (separates b) separators) bs
 
 -- from an offset on, where the next text begins, and how long it is
 abbrev pub start : List ℕ → ℕ → ℕ

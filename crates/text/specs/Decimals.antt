@@ -1,19 +1,11 @@
 -- Numbers whose digits, their point left out, are in range. Assumes nothing.
 use Rattle.std.specs.Prelude.{ℕ, Bool, cond, ◌&&◌, ℤ, Some, None, Option, nat_le, unsigned_abs}
-use Rattle.text.specs.declared.decimal.Decimal.{Decimal}
 use Rattle.text.specs.declared.number.Number.{Number}
 
 -- digits with their point left out, and how many of them stand after it
 pub record Fixed : Type 0 where
   pub value : ℤ
   pub places : ℕ
-
-abbrev pub fixed : Decimal → Fixed
-fixed d = record { value = d.value; places = d.places }
-
-abbrev pub given : Option Decimal → Option Fixed
-given (Some d) = Some (fixed d)
-given None = None
 
 abbrev pub in_range : ℤ → Bool
 in_range z = nat_le (unsigned_abs z) 2_147_483_646

@@ -1,4 +1,4 @@
-// Bytes into texts and numbers, and numbers into bytes.
+//! Bytes into texts and numbers, and numbers into bytes.
 #![tactic(auto)]
 
 mod block;

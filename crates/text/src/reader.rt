@@ -1,4 +1,4 @@
-// Parts a block into texts at space, CR, LF and semicolon.
+//! Parts a block into texts at space, CR, LF and semicolon.
 ghost use Rattle.std.specs.Prelude.{◌≡◌, ◌+◌, ◌≤◌, length};
 ghost use Rattle.text.specs.Blocks.{separates, run, seen, cut, cut_at, after, pieces, onto, Onward, Parted};
 
@@ -7,22 +7,21 @@ use crate::block::{Part, Piece, Reader};
 fn is_separator(byte: u8) -> bool
     ensures { result ≡ separates byte }
 {
-    byte == b' ' || byte == b'\r' || byte == b'\n' || byte == b';'
+    matches!(byte, b' ' | b'\r' | b'\n' | b';')
 }
 
-// How many bytes at the front are separators, or are none.
+/// How many bytes at the front are separators, or are none.
 fn run_len(bytes: &[u8], separators: bool) -> usize
     ensures within { result ≤ length bytes.now }
     ensures value { result ≡ run separators bytes.now }
 {
-    let mut n = 0;
-    while n < bytes.len() && is_separator(bytes[n]) == separators {
-        n += 1;
-    }
-    n
+    bytes
+        .iter()
+        .take_while(|&&byte| is_separator(byte) == separators)
+        .count()
 }
 
-// The text of `size` bytes at `from`; with none there, the end.
+/// The text of `size` bytes at `from`; with none there, the end.
 fn piece_at(block: &[u8], from: usize, size: usize) -> Piece<'_>
     requires { from + size ≤ length block.now }
     ensures { seen result ≡ cut block.now from size }
@@ -40,7 +39,7 @@ fn piece_at(block: &[u8], from: usize, size: usize) -> Piece<'_>
     }
 }
 
-// What is next from `offset` on.
+/// What is next from `offset` on.
 fn piece_from(block: &[u8], offset: usize) -> Piece<'_>
     requires { offset ≤ length block.now }
     ensures piece { seen result ≡ cut_at block.now offset }
@@ -51,15 +50,14 @@ fn piece_from(block: &[u8], offset: usize) -> Piece<'_>
     piece_at(block, from, size)
 }
 
-// The offset after a piece of a block of `len` bytes: one separator after a text is passed with it.
+/// The offset after a piece of a block of `len` bytes: one separator after a text is passed with it.
 fn offset_after(piece: Piece, len: usize) -> usize
     requires { after len (seen piece) ≤ len }
     ensures { result ≡ after len (seen piece.entry) }
 {
     match piece {
         Piece::Command(part) => part.offset + part.bytes.len() + 1,
-        Piece::Unfinished(_) => len,
-        Piece::End => len,
+        Piece::Unfinished(_) | Piece::End => len,
     }
 }
 
@@ -71,7 +69,7 @@ impl<'a> Reader<'a> {
         Reader { block, offset: 0 }
     }
 
-    // The next text; past the last one, the end. The texts that are left are all of the block that is left.
+    /// The next text; past the last one, the end. The texts that are left are all of the block that is left.
     pub fn next(&mut self) -> Piece<'a>
         ensures block { self.new.block.now ≡ self.old.block.now }
         ensures piece { seen result ≡ cut_at self.old.block.now self.old.offset }

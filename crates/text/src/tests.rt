@@ -1,23 +1,19 @@
-use crate::{Piece, Reader, read_number, write_number};
+//! Blocks parted, and numbers read, scaled and written, by example.
+use crate::{Part, Piece, Reader, read_number, write_number};
 
-// Which kind of piece, its bytes and its offset.
-fn shown<'a>(piece: Piece<'a>) -> (u8, &'a [u8], usize) {
-    match piece {
-        Piece::Command(part) => (1, part.bytes, part.offset),
-        Piece::Unfinished(part) => (2, part.bytes, part.offset),
-        Piece::End => (0, b"", 0),
-    }
+fn part(bytes: &[u8], offset: usize) -> Part<'_> {
+    Part { bytes, offset }
 }
 
 #[test]
 fn parts(rt: HostRuntime) {
     let mut reader = Reader::new(b" MR5;\r\nGO ;T");
-    assert_eq!(rt; shown(reader.next()), (1u8, b"MR5".as_slice(), 1usize));
-    assert_eq!(rt; shown(reader.next()), (1u8, b"GO".as_slice(), 7usize));
-    assert_eq!(rt; shown(reader.next()), (2u8, b"T".as_slice(), 11usize));
-    assert_eq!(rt; shown(reader.next()), (0u8, b"".as_slice(), 0usize));
+    assert_eq!(rt; reader.next(), Piece::Command(part(b"MR5", 1)));
+    assert_eq!(rt; reader.next(), Piece::Command(part(b"GO", 7)));
+    assert_eq!(rt; reader.next(), Piece::Unfinished(part(b"T", 11)));
+    assert_eq!(rt; reader.next(), Piece::End);
     let mut blank = Reader::new(b"; \n");
-    assert_eq!(rt; shown(blank.next()), (0u8, b"".as_slice(), 0usize));
+    assert_eq!(rt; blank.next(), Piece::End);
 }
 
 fn read(text: &[u8], point: bool) -> Result<(i64, usize, usize), usize> {
@@ -39,7 +35,7 @@ fn numbers(rt: HostRuntime) {
     assert_eq!(rt; read(b"", true), Err(0));
 }
 
-// The counts that a number makes by a factor.
+/// The counts that a number makes by a factor.
 fn counts(number: &[u8], factor: &[u8]) -> Option<i64> {
     let number = read_number(number, true).ok()?.decimal()?;
     let factor = read_number(factor, true).ok()?.decimal()?;

@@ -1,10 +1,7 @@
-use Rattle.std.proofs.Common.{◌≡◌, ◌-◌, ◌≤◌, length, drop}
-use Rattle.text.specs.Numbers.{signs, start, scanned, Sound}
+use Rattle.std.proofs.Common.{◌≡◌, ◌+◌, drop}
+use Rattle.text.specs.Numbers.{start, scanned, Sound}
 use Rattle.text.proofs.number.scan_number.Given as goal
 
-abbrev pub invariant-loop-scan : goal.invariant-loop-scan
-invariant-loop-scan l =
-    Sound l.scan × (l.scan.end ≤ length l.text) × (scanned l.point l.scan (drop l.scan.end l.text) ≡ scanned l.point (start (signs l.text)) (drop (signs l.text) l.text))
-
-abbrev pub decreases-loop-scan : goal.decreases-loop-scan
-decreases-loop-scan l = length l.text - l.scan.end
+abbrev pub invariant-loop-byte : goal.invariant-loop-byte
+invariant-loop-byte l =
+    Sound l.scan × (l.scan.end ≡ l.sign + l.byte-index) × (scanned l.point l.scan (drop l.byte-index l.byte-items) ≡ scanned l.point (start l.sign) l.byte-items)

@@ -1,17 +1,10 @@
-use Rattle.std.proofs.Common.{refl}
-use Rattle.text.proofs.Cutting.{goes_on, leaves, parted}
+use Rattle.text.proofs.Cutting.{leaves, parted}
 use Rattle.text.proofs.block.Reader.next.Goals as goal
 
-pub returns : goal.returns
-returns c =
+pub returns-clause-left : goal.returns-clause-left
+returns-clause-left c =
     let before = c.args.self.now in
-    let piece = c.piece_from-piece.ensures.piece in
-    let offset = c.offset_after-self.ensures in
-    record {
-      block = refl;
-      piece = piece;
-      offset = offset;
-      left = leaves before.block.now before.offset before.inside _ piece _ offset;
-      parted = parted before.block.now before.offset before.inside;
-      onward = goes_on before.block.now before.offset before.inside _ piece _ offset;
-    }
+    leaves before.block.now before.offset before.inside _ c.piece_from-piece.ensures.piece _ c.offset_after-self.ensures
+
+pub returns-clause-parted : goal.returns-clause-parted
+returns-clause-parted c = let before = c.args.self.now in parted before.block.now before.offset before.inside

@@ -1,5 +1,5 @@
 -- That no name begins another, from one test of the whole table. Assumes nothing.
-use Rattle.std.proofs.Common.{◌≡◌, ℕ, zero, suc, Bool, true, false, not, ◌&&◌, ◌||◌, List, [], ◌∷◌, refl, ap, subst}
+use Rattle.std.proofs.Common.{◌≡◌, ℕ, zero, suc, Bool, true, false, not, ◌&&◌, ◌||◌, List, [], ◌∷◌, refl, ap, ◌∙◌, subst}
 use Rattle.std.proofs.lemmas.Bool.{and_parts, or_parts, not-true, both_ways}
 use Rattle.names.specs.Tables.{Row, begins}
 use Rattle.names.specs.Laws.{Stands, Apart}
@@ -25,7 +25,7 @@ module _ {N : Type 0} where
   apart_by_test [] t i j r s hr hs b = absurd hr
   apart_by_test (q ∷ rows) t zero zero r s hr hs b = refl
   apart_by_test (q ∷ rows) t zero (suc j) r s hr hs b =
-      absurd (both_ways _ (free_of q.1 rows j s (and_parts (free q.1 rows) (apart rows) t).0 hs).0 (rw hr b))
+      absurd (both_ways _ (free_of q.1 rows j s (and_parts (free q.1 rows) (apart rows) t).0 hs).0 (ap (λ (x : Row N). begins x.1 s.1) hr ∙ b))
   apart_by_test (q ∷ rows) t (suc i) zero r s hr hs b =
-      absurd (both_ways _ (free_of q.1 rows i r (and_parts (free q.1 rows) (apart rows) t).0 hr).1 (rw hs b))
+      absurd (both_ways _ (free_of q.1 rows i r (and_parts (free q.1 rows) (apart rows) t).0 hr).1 (ap (λ (x : Row N). begins r.1 x.1) hs ∙ b))
   apart_by_test (q ∷ rows) t (suc i) (suc j) r s hr hs b = ap suc (apart_by_test rows (and_parts (free q.1 rows) (apart rows) t).1 i j r s hr hs b)
