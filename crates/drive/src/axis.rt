@@ -1,13 +1,16 @@
-// The axes, in order.
-ghost use Rattle.std.specs.Prelude.{◌≡◌, ◌<◌, pos, slice_index_or};
+//! The axes, in order.
+ghost use Rattle.std.specs.Prelude.{◌≡◌, ◌<◌, ◌∷◌, [], Some, pos, slice_index_or};
 ghost use Rattle.drive.specs.Axes.{axes, index, number, letter, axis_at};
 
-// How many axes there are.
+use std::fmt;
+
+/// How many axes there are.
 pub const AXES: usize = 8;
 
+// A match would hold the same eight letters, a row for each.
 const LETTERS: &[u8; AXES] = b"XYZTUVRS";
 
-#[derive(Clone, Copy, PartialEq, Eq)]
+#[derive(Clone, Copy, Debug, PartialEq, Eq)]
 pub enum Axis {
     X,
     Y,
@@ -31,13 +34,14 @@ impl Axis {
         Axis::S,
     ];
 
-    // The axis at an index, from 0.
+    /// The axis at an index, from 0.
     pub fn at(i: usize) -> Option<Axis>
         ensures { result ≡ axis_at i }
     {
-        if i < AXES { Some(Axis::ALL[i]) } else { None }
+        Axis::ALL.get(i).copied()
     }
 
+    /// From 0. There are two numberings, so each is a method with a name, and neither a `From`.
     pub fn index(self) -> usize
         ensures value { result ≡ index self }
         ensures small { result < axes }
@@ -45,7 +49,7 @@ impl Axis {
         self as usize
     }
 
-    // The number that a host knows the axis by, from 1.
+    /// The number that a host knows the axis by, from 1.
     pub fn number(self) -> usize
         ensures { result ≡ number self }
     {
@@ -58,11 +62,18 @@ impl Axis {
         LETTERS[self.index()]
     }
 
-    // The axis's own of a row of readings: 0 where the row is too short.
+    /// The axis's own of a row of readings: 0 where the row is too short.
     pub fn reading(self, readings: &[i64]) -> i64
         ensures { result ≡ slice_index_or readings.now (index self) (pos 0) }
     {
-        let i = self.index();
-        if i < readings.len() { readings[i] } else { 0 }
+        readings.get(self.index()).copied().unwrap_or(0)
+    }
+}
+
+impl fmt::Display for Axis {
+    ghost output = { λ a. Some (letter a ∷ []) };
+
+    fn fmt<W: fmt::Write>(&self, f: &mut fmt::Formatter<W>) -> fmt::Result {
+        f.write_char(self.letter() as char)
     }
 }

@@ -1,11 +1,11 @@
-// Which axes are healthy, as one word.
+//! Which axes are healthy, as one word.
 ghost use Rattle.std.specs.Prelude.{◌≡◌};
 ghost use Rattle.drive.specs.Axes.{index};
 ghost use Rattle.drive.specs.Health.{is_up};
 
 use crate::axis::Axis;
 
-// Bit 0 is the first axis's, and 1 says that it is up.
+/// Bit 0 is the first axis's, and 1 says that it is up.
 #[derive(Clone, Copy)]
 pub struct Health {
     pub bits: u8,

@@ -1,4 +1,4 @@
-// What a drive means.
+//! What a drive means.
 ghost use Rattle.std.specs.Prelude.{◌≡◌};
 ghost use Rattle.drive.specs.Axes.{index};
 ghost use Rattle.drive.specs.Range.{InRange};
@@ -8,7 +8,7 @@ ghost use Rattle.drive.specs.Laws.{Keeps, Stopped};
 use crate::axis::Axis;
 use crate::health::Health;
 
-// Why a target is not begun.
+/// Why a target is not begun.
 #[derive(Clone, Copy, PartialEq, Eq)]
 pub enum Decline {
     Down,
@@ -20,7 +20,7 @@ pub trait Drive {
 
     ghost state: { Self → State };
 
-    // What is told of a state, and what becomes of it.
+    /// What is told of a state, and what becomes of it.
     ghost ops: { Ops State };
 
     fn position(&self, axis: Axis) -> i64
@@ -48,7 +48,7 @@ pub trait Drive {
         self.position(axis) == self.target(axis)
     }
 
-    // What `begin` answers: an axis that is down declines first, then one that does not reach the target.
+    /// What `begin` answers: an axis that is down declines first, then one that does not reach the target.
     fn admits(&self, axis: Axis, target: i64) -> Result<(), Decline>
         ensures { result ≡ reply ops (state self.now) (index axis) target }
     {
@@ -74,7 +74,7 @@ pub trait Drive {
     ghost keeps: { Keeps ops };
 }
 
-// Halts every axis, in order.
+/// Halts every axis, in order.
 pub fn halt_all<D: Drive>(drive: &mut D)
     ensures after { D.Drive.state drive.new ≡ all_halted D.Drive.ops (D.Drive.state drive.old) }
     ensures stops { Stopped D.Drive.ops (D.Drive.state drive.old) (D.Drive.state drive.new) }

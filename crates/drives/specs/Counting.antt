@@ -2,16 +2,20 @@
 use Rattle.std.specs.Prelude.{ℕ, false, cond, List, ℤ, pos, ◌+ℤ◌, ◌-ℤ◌, int_le, slice_index_or}
 use Rattle.std.specs.Int.Signed.{le_z_yes}
 use Rattle.std.specs.Int.{int_min}
-use Rattle.motors.specs.Limits.{clamped, clamped_within}
 use Rattle.motors.specs.Motors.{near, resting}
 use Rattle.motors.specs.Rules.{Rule}
 use Rattle.motors.specs.Banks.{bank_of}
-use Rattle.motors.specs.declared.parts.Bank.{Bank}
-use Rattle.motors.specs.declared.parts.Motor.{Motor}
-use Rattle.drives.specs.declared.parts.Rate.{Rate}
+use Rattle.motors.specs.declared.bank.Bank.{Bank}
+use Rattle.motors.specs.declared.motor.Motor.{Motor}
+use Rattle.drives.specs.UpTos.{up_to_near}
+use Rattle.drives.specs.declared.up_to.UpTo.{UpTo}
 
-unfoldable pub rate_near : ℤ → Rate
-rate_near z = record { value = clamped (pos 1) (pos 1000000) z; ok = clamped_within (pos 1) (pos 1000000) z (le_z_yes tt) }
+abbrev pub Rate : Type 0
+Rate = UpTo 1000000
+
+-- z, or the nearest rate
+abbrev pub rate_near : ℤ → Rate
+rate_near z = up_to_near 1000000 (le_z_yes tt) z
 
 -- from p toward t, by the lesser of r and the distance left
 unfoldable pub toward : ℤ → ℤ → ℤ → ℤ

@@ -1,4 +1,4 @@
-pub mod Limits
+pub mod UpTos
 pub mod Counting
 pub mod Reporting
 pub mod Ratio

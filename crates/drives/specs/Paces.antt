@@ -10,9 +10,9 @@ use Rattle.motors.specs.Limits.{clamped}
 use Rattle.motors.specs.Rules.{Lawful}
 use Rattle.drives.specs.Counting.{toward, counted}
 use Rattle.drives.specs.Reporting.{on_way, settled, reported}
-use Rattle.drives.specs.declared.parts.Link.{Link}
-use Rattle.motors.specs.declared.parts.Motor.{Motor}
-use Rattle.motors.proofs.Bounds.{near_value, between_range}
+use Rattle.drives.specs.declared.reporting.Link.{Link}
+use Rattle.motors.specs.declared.motor.Motor.{Motor}
+use Rattle.motors.specs.Laws.{near_value, between_range}
 
 -- as the code has it
 pub toward_clamped : (p t r : ℤ) → pos 0 ≤ℤ r → clamped (p -ℤ r) (p +ℤ r) t ≡ toward p t r

@@ -1,14 +1,18 @@
 -- The ratio drive over another. Assumes nothing.
-use Rattle.std.specs.Prelude.{ℤ, pos, ◌*ℤ◌, neg_ℤ, int_div}
+use Rattle.std.specs.Prelude.{ℤ, ◌*ℤ◌, neg_ℤ, int_div}
 use Rattle.std.specs.Int.Signed.{le_z_yes}
 use Rattle.std.specs.Int.{int_div_euclid}
 use Rattle.drive.specs.Drive.{Ops}
-use Rattle.motors.specs.Limits.{clamped, clamped_within}
-use Rattle.drives.specs.declared.parts.Steps.{Steps}
+use Rattle.drives.specs.UpTos.{up_to_near}
+use Rattle.drives.specs.declared.up_to.UpTo.{UpTo}
 use Rattle.drives.specs.declared.ratio.Ratio.{Ratio}
 
-unfoldable pub steps_near : ℤ → Steps
-steps_near z = record { value = clamped (pos 1) (pos 1000) z; ok = clamped_within (pos 1) (pos 1000) z (le_z_yes tt) }
+abbrev pub Steps : Type 0
+Steps = UpTo 1000
+
+-- z, or the nearest that steps may be
+abbrev pub steps_near : ℤ → Steps
+steps_near z = up_to_near 1000 (le_z_yes tt) z
 
 -- rounded down, and up
 abbrev pub floored : ℤ → ℤ → ℤ

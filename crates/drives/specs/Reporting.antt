@@ -5,9 +5,9 @@ use Rattle.drive.specs.Range.{within}
 use Rattle.motors.specs.Motors.{near, resting}
 use Rattle.motors.specs.Rules.{Rule}
 use Rattle.motors.specs.Banks.{bank_of}
-use Rattle.motors.specs.declared.parts.Bank.{Bank}
-use Rattle.drives.specs.declared.parts.Link.{Link}
-use Rattle.motors.specs.declared.parts.Motor.{Motor}
+use Rattle.motors.specs.declared.bank.Bank.{Bank}
+use Rattle.drives.specs.declared.reporting.Link.{Link}
+use Rattle.motors.specs.declared.motor.Motor.{Motor}
 
 abbrev pub link : Bool → Link
 link d = record { down = d }

@@ -1,7 +1,7 @@
-// Three drives: counting, reporting, and ratio over any other.
+//! Three drives: counting, reporting, and ratio over any other.
 #![tactic(auto)]
 
 pub mod counting;
-pub mod parts;
 pub mod ratio;
 pub mod reporting;
+pub mod up_to;

@@ -1,25 +1,19 @@
-// The ratio drive: it counts in whole multiples of the steps of the drive below it.
+//! The ratio drive: it counts in whole multiples of the steps of the drive below it.
 ghost use Rattle.std.specs.Prelude.{◌≡◌, int_div};
 ghost use Rattle.drive.specs.Range.{InRange};
-ghost use Rattle.drives.specs.Ratio.{Geared, geared, over, steps_near, floored, ceiled};
+ghost use Rattle.drives.specs.Ratio.{Geared, geared, over, floored, ceiled};
 ghost use Rattle.drives.specs.Gears.{geared_keeps};
 
-use crate::parts::Steps;
+use crate::up_to::UpTo;
 use drive::axis::Axis;
 use drive::health::Health;
 use drive::motion::{Decline, Drive};
 
-impl Steps {
-    // The number, or the nearest that steps may be.
-    fn near(value: i64) -> Steps
-        ensures { result ≡ steps_near value }
-    {
-        Steps {
-            value: value.clamp(1, 1000),
-        }
-    }
+/// How many steps of the drive below make one count.
+pub type Steps = UpTo<1000>;
 
-    // So many steps in counts: toward zero, down and up.
+impl Steps {
+    /// So many steps in counts: toward zero, down and up.
     fn truncated(self, steps: i64) -> i64
         requires { InRange steps }
         ensures value { result ≡ int_div steps self.value }
@@ -52,7 +46,7 @@ pub struct Ratio<D: Drive> {
 }
 
 impl<D: Drive> Ratio<D> {
-    // So many steps of the drive below to one count.
+    /// So many steps of the drive below to one count.
     pub fn new(below: D, steps: i64) -> Ratio<D>
         ensures { result ≡ over below steps }
     {

@@ -1,4 +1,4 @@
-// Steps of the drives by example, and a drive that never begins.
+//! Steps of the drives by example, and a drive that never begins.
 #![tactic(auto)]
 
 pub mod locked;

@@ -1,4 +1,4 @@
-// A drive that is always down: it keeps the laws, and no target is ever begun on it.
+//! A drive that is always down: it keeps the laws, and no target is ever begun on it.
 ghost use Rattle.drives_tests.specs.Locked.{locked};
 ghost use Rattle.std.proofs.Common.{rules};
 

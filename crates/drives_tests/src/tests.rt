@@ -1,14 +1,14 @@
+//! Steps of each drive, row by row.
 use crate::locked::Locked;
 use drive::axis::{AXES, Axis};
 use drive::health::Health;
 use drive::motion::{Decline, Drive, halt_all};
-use drives::counting::Counting;
 use drives::ratio::Ratio;
-use drives::reporting::Reporting;
+use drives::{counting, reporting};
 
 const SILENT: Health = Health { bits: 0 };
 
-// rate, start, target, and the position after one advance
+/// rate, start, target, and the position after one advance
 const COUNTED: [(i64, i64, i64, i64); 6] = [
     (2, 0, 5, 2),
     (2, 0, -5, -2),
@@ -21,7 +21,7 @@ const COUNTED: [(i64, i64, i64, i64); 6] = [
 #[test]
 fn counting_moves_by_its_rate(rt: HostRuntime) {
     for (rate, start, target, next) in COUNTED {
-        let mut drive = Counting::new(&[rate; AXES], &[start; AXES]);
+        let mut drive = counting::new(&[rate; AXES], &[start; AXES]);
         assert!(rt; drive.begin(Axis::Y, target).is_ok());
         drive.advance(&[], SILENT);
         assert!(rt; drive.position(Axis::Y) == next);
@@ -30,7 +30,7 @@ fn counting_moves_by_its_rate(rt: HostRuntime) {
     }
 }
 
-// target of Z from 0, its reading, the health bits, and where it then stands and whether it is down
+/// target of Z from 0, its reading, the health bits, and where it then stands and whether it is down
 const REPORTED: [(i64, i64, u8, i64, bool); 7] = [
     (9, 4, 4, 4, false),
     (9, 0, 4, 0, false),
@@ -44,7 +44,7 @@ const REPORTED: [(i64, i64, u8, i64, bool); 7] = [
 #[test]
 fn reporting_stands_where_it_is_told(rt: HostRuntime) {
     for (target, reading, bits, next, down) in REPORTED {
-        let mut drive = Reporting::new(&[0; AXES]);
+        let mut drive = reporting::new(&[0; AXES]);
         assert!(rt; drive.begin(Axis::Z, target).is_ok());
         drive.advance(&[0, 0, reading], Health { bits });
         assert!(rt; drive.position(Axis::Z) == next);
@@ -54,7 +54,7 @@ fn reporting_stands_where_it_is_told(rt: HostRuntime) {
 
 #[test]
 fn a_down_axis_comes_up_and_goes_on(rt: HostRuntime) {
-    let mut drive = Reporting::new(&[0; AXES]);
+    let mut drive = reporting::new(&[0; AXES]);
     drive.advance(&[], SILENT);
     assert!(rt; drive.begin(Axis::X, 5) == Err(Decline::Down));
     drive.advance(&[0], Health { bits: 1 });
@@ -63,10 +63,10 @@ fn a_down_axis_comes_up_and_goes_on(rt: HostRuntime) {
     assert!(rt; drive.target(Axis::X) == 5);
 }
 
-// Fifty steps of the counting drive to one count of the top, by 10 and then by 5.
+/// Fifty steps of the counting drive to one count of the top, by 10 and then by 5.
 #[test]
 fn ratio_stands_over_ratio_over_counting(rt: HostRuntime) {
-    let counting = Counting::new(&[100; AXES], &[0; AXES]);
+    let counting = counting::new(&[100; AXES], &[0; AXES]);
     let mut drive = Ratio::new(Ratio::new(counting, 10), 5);
     assert!(rt; drive.greatest(Axis::X) == 42_949_672);
     assert!(rt; drive.least(Axis::X) == -42_949_672);
@@ -89,7 +89,7 @@ fn ratio_stands_over_ratio_over_counting(rt: HostRuntime) {
 #[test]
 fn steps_to_a_count_are_from_1_to_1000(rt: HostRuntime) {
     for (steps, position) in [(0, 2_000_999), (-7, 2_000_999), (7, 285_857), (5000, 2000)] {
-        let drive = Ratio::new(Counting::new(&[1; AXES], &[2_000_999; AXES]), steps);
+        let drive = Ratio::new(counting::new(&[1; AXES], &[2_000_999; AXES]), steps);
         assert!(rt; drive.position(Axis::S) == position);
     }
 }

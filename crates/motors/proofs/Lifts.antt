@@ -1,24 +1,16 @@
--- A rule for one axis, lifted to a bank, keeps the laws of a drive; and loops over the motors. Assumes nothing.
-use Rattle.std.proofs.Common.{◌≡◌, ℕ, ◌+◌, ◌<◌, ◌≤◌, Bool, ◌≢◌, List, length, get_or, set, ℤ, pos, sym, refl, ap, ◌∙◌, subst, arith}
+-- Loops over the motors of a bank. Assumes nothing.
+use Rattle.std.proofs.Common.{◌≡◌, ℕ, ◌+◌, ◌<◌, ◌≤◌, Bool, ◌≢◌, List, length, get_or, set, ℤ, pos, sym, ap, ◌∙◌, subst, arith}
 use mathlib.Core.HLevel.{is_prop→PathP}
 use native.Mathlib.Nat.{ℕ_set}
-use lib.Signed.{le_z_yes}
-use Rattle.std.proofs.lemmas.List.{get_or-set_same, get_or-set_other, get_or_default}
+use Rattle.std.proofs.lemmas.List.{get_or-set_other, get_or_default}
 use Rattle.drive.specs.Axes.{axes}
 use Rattle.drive.specs.Health.{is_up}
 use Rattle.drive.specs.declared.health.Health.{Health}
-use Rattle.drive.specs.Laws.{Keeps, Aimed, Kept}
-use Rattle.drive.specs.Range.{Between}
 use Rattle.drive.proofs.Filling.{Filled, filled_more, filled_each}
-use Rattle.drive.proofs.Indices.{get_or-each}
-use Rattle.drive.proofs.Orders.{within_true}
-use Rattle.motors.specs.Banks.{absent_motor, with_motor, bank_of, motor_of, banked}
-use Rattle.motors.specs.Motors.{near, aimed}
-use Rattle.motors.specs.Rules.{Rule, Lawful}
-use Rattle.motors.specs.declared.parts.Bank.{Bank}
-use Rattle.motors.specs.declared.parts.Motor.{Motor}
-use Rattle.motors.specs.declared.parts.Ranged.{Ranged}
-use Rattle.motors.proofs.Bounds.{near_value}
+use Rattle.motors.specs.Banks.{absent_motor, bank_of, motor_of}
+use Rattle.motors.specs.Rules.{Rule}
+use Rattle.motors.specs.declared.bank.Bank.{Bank}
+use Rattle.motors.specs.declared.motor.Motor.{Motor}
 
 module _ {A : Type 0} where
   pub same_bank : (a b : Bank A) → a.motors ≡ b.motors → a ≡ b
@@ -58,51 +50,3 @@ module _ {A : Type 0} (r : Rule A) (b : Bank A) where
       let lt : k < length ms = omega arith in
       let e = get_or_default ms k x (absent_motor r) lt in
       cc
-
-  pub motor_at : (k : ℕ) (m : Motor A) → k < axes → motor_of r (with_motor b k m) k ≡ m
-  motor_at k m h = let lt : k < length b.motors = omega (arith, b.full) in get_or-set_same b.motors k m _ lt
-
-  aims : (k : ℕ) (t : Ranged) → k < axes → Aimed (banked r) b (with_motor b k (aimed (motor_of r b k) t)) k t.value
-  aims k t h =
-      let e = motor_at k (aimed (motor_of r b k) t) h in
-      record {
-        position = ap (λ (m : Motor A). m.position.value) e;
-        target = ap (λ (m : Motor A). m.target.value) e;
-        least = refl;
-        greatest = refl;
-        down = ap (λ (m : Motor A). r.down m.own) e;
-      }
-
-  others : (k j : ℕ) (m : Motor A) → j ≢ k → Kept (banked r) b (with_motor b k m) j
-  others k j m ne =
-      let e : motor_of r (with_motor b k m) j ≡ motor_of r b j = get_or-set_other b.motors k j m _ ne in
-      record {
-        position = ap (λ (m : Motor A). m.position.value) e;
-        target = ap (λ (m : Motor A). m.target.value) e;
-        least = refl;
-        greatest = refl;
-        down = ap (λ (m : Motor A). r.down m.own) e;
-      }
-
-pub banked_keeps : {A : Type 0} (r : Rule A) → Lawful r → Keeps (banked r)
-banked_keeps {A} r L = record {
-  sound = λ b k h. record {
-    position = (motor_of r b k).position.ok;
-    target = (motor_of r b k).target.ok;
-    least = (le_z_yes tt, le_z_yes tt);
-    greatest = (le_z_yes tt, le_z_yes tt);
-  };
-  begun_at = λ b k t h up reach. subst (λ g. Aimed (banked r) b (with_motor b k (aimed (motor_of r b k) (near t))) k g) (near_value t (within_true _ _ t reach)) (aims r b k (near t) h);
-  begun_off = λ b k j t h hj ne up reach. others r b k j _ ne;
-  halted_at = λ b k h. aims r b k (motor_of r b k).position h;
-  halted_off = λ b k j h hj ne. others r b k j _ ne;
-  advanced_at = λ b readings w k h.
-      let m = motor_of r b k in
-      let e = get_or-each (λ j. r.moved (motor_of r b j) (get_or readings j (pos 0)) (is_up w j)) k (absent_motor r) h in
-      record {
-        position = subst (λ (n : Motor A). Between m.position.value m.target.value n.position.value) (sym e) (L.position m (get_or readings k (pos 0)) (is_up w k));
-        target = ap (λ (n : Motor A). n.target.value) e ∙ ap (λ (t : Ranged). t.value) (L.target m (get_or readings k (pos 0)) (is_up w k));
-        least = refl;
-        greatest = refl;
-      };
-}

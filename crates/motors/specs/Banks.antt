@@ -7,9 +7,9 @@ use Rattle.drive.specs.Health.{is_up}
 use Rattle.drive.specs.Range.{bottom, top}
 use Rattle.motors.specs.Motors.{near, resting, aimed}
 use Rattle.motors.specs.Rules.{Rule}
-use Rattle.motors.specs.declared.parts.Bank.{Bank}
-use Rattle.motors.specs.declared.parts.Motor.{Motor}
-use Rattle.motors.specs.declared.parts.Ranged.{Ranged}
+use Rattle.motors.specs.declared.bank.Bank.{Bank}
+use Rattle.motors.specs.declared.motor.Motor.{Motor}
+use Rattle.motors.specs.declared.ranged.Ranged.{Ranged}
 
 module _ {A : Type 0} where
   abbrev pub with_motor : Bank A → ℕ → Motor A → Bank A

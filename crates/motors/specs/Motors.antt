@@ -3,8 +3,8 @@ use Rattle.std.specs.Prelude.{ℤ}
 use Rattle.std.specs.Int.Signed.{le_z_yes}
 use Rattle.drive.specs.Range.{bottom, top}
 use Rattle.motors.specs.Limits.{clamped, clamped_within}
-use Rattle.motors.specs.declared.parts.Motor.{Motor}
-use Rattle.motors.specs.declared.parts.Ranged.{Ranged}
+use Rattle.motors.specs.declared.motor.Motor.{Motor}
+use Rattle.motors.specs.declared.ranged.Ranged.{Ranged}
 
 unfoldable pub near : ℤ → Ranged
 near z = record { value = clamped bottom top z; ok = clamped_within bottom top z (le_z_yes tt) }

@@ -1,7 +1,7 @@
 -- What a rule for one axis is. Assumes nothing.
 use Rattle.std.specs.Prelude.{◌≡◌, Bool, ℤ}
 use Rattle.drive.specs.Range.{Between}
-use Rattle.motors.specs.declared.parts.Motor.{Motor}
+use Rattle.motors.specs.declared.motor.Motor.{Motor}
 
 -- A is what the axis keeps beside its position and its target.
 pub record Rule (A : Type 0) : Type 0 where

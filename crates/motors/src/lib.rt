@@ -1,7 +1,7 @@
-// A motor for each axis, all moving by one rule for one axis.
+//! A motor for each axis, all moving by one rule for one axis.
 #![tactic(auto)]
 
 pub mod bank;
 pub mod motor;
-pub mod parts;
+pub mod ranged;
 pub mod rule;

@@ -1,19 +1,15 @@
-// How numbers and motors are made.
+//! One axis.
 ghost use Rattle.std.specs.Prelude.{◌≡◌};
-ghost use Rattle.motors.specs.Motors.{near, resting};
+ghost use Rattle.motors.specs.Motors.{resting};
 
-use crate::parts::{Motor, Ranged};
-use drive::range::{BOTTOM, TOP};
+use crate::ranged::Ranged;
 
-impl Ranged {
-    // The number, or the end of the range that it lies beyond.
-    pub fn near(value: i64) -> Ranged
-        ensures { result ≡ near value }
-    {
-        Ranged {
-            value: value.clamp(BOTTOM, TOP),
-        }
-    }
+/// Where an axis stands, where it is bound, and what its rule keeps beside.
+#[derive(Clone, Copy)]
+pub struct Motor<A> {
+    pub position: Ranged,
+    pub target: Ranged,
+    pub own: A,
 }
 
 impl<A> Motor<A> {

@@ -2,7 +2,7 @@ use Rattle.std.proofs.Common.{pos, ◌+ℤ◌, ◌-ℤ◌, ◌≤ℤ◌, ap, ◌
 use borrow.Author.Differences.{ints}
 use Rattle.std.proofs.lemmas.Int.{to_z-of_z}
 use Rattle.motors.specs.Motors.{near}
-use Rattle.motors.specs.declared.parts.Ranged.{Ranged}
+use Rattle.motors.specs.declared.ranged.Ranged.{Ranged}
 use Rattle.motors.proofs.Bounds.{ranged_back}
 use Rattle.drives.specs.Bounds.{rate_back}
 use Rattle.drives.specs.Paces.{toward_clamped}
