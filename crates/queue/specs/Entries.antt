@@ -1,5 +1,5 @@
 -- Entries: their codes, which of these take an argument, and what executing one does to an axis's plan and target.
-use Rattle.std.specs.Prelude.{ℕ, ◌+◌, Bool, true, false, cond, ◌&&◌, List, [], ◌∷◌, map, ℤ, pos, ◌+ℤ◌, neg_ℤ, ◌≤ℤ◌, Some, None, Option, int_le}
+use Rattle.std.specs.Prelude.{ℕ, ◌+◌, Bool, true, false, cond, ◌&&◌, List, [], ◌∷◌, map, codes, ℤ, pos, ◌+ℤ◌, neg_ℤ, ◌≤ℤ◌, Some, None, Option, int_le}
 use Rattle.queue.specs.declared.entry.Code.{Code}
 use Rattle.queue.specs.declared.entry.Code.TheVariants.{Ma, Mr, Go, Bh, Bl, Sw, Bw, Ws}
 use Rattle.queue.specs.declared.entry.Entry.{Entry}
@@ -15,6 +15,17 @@ code_number Bl = 5
 code_number Sw = 6
 code_number Bw = 7
 code_number Ws = 8
+
+-- The two letters that a code is printed as.
+abbrev pub code_letters : Code → List ℕ
+code_letters Ma = codes "MA"
+code_letters Mr = codes "MR"
+code_letters Go = codes "GO"
+code_letters Bh = codes "BH"
+code_letters Bl = codes "BL"
+code_letters Sw = codes "SW"
+code_letters Bw = codes "BW"
+code_letters Ws = codes "WS"
 
 -- Whether the code takes an argument.
 abbrev pub takes : Code → Bool

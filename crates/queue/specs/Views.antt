@@ -3,13 +3,20 @@ use Rattle.std.specs.Prelude.{◌≡◌, ℕ, ◌+◌, ◌-◌, ◌≤◌, Bool,
 use Rattle.queue.specs.declared.entry.Code.{Code}
 use Rattle.queue.specs.declared.entry.Entry.{Entry}
 use Rattle.queue.specs.declared.entry.Batch.{Batch}
-use Rattle.queue.specs.declared.axis.AxisQueue.{AxisQueue}
 use Rattle.queue.specs.declared.axis.Head.{Head}
 use Rattle.queue.specs.declared.axis.Refusal.{Refusal}
 use Rattle.queue.specs.declared.axis.Refusal.TheVariants.{Commands, Arguments, Count}
-use Rattle.queue.specs.Ring.{held}
 use Rattle.queue.specs.Entries.{takes, listed, argument_count, ranged}
-use Rattle.queue.specs.Sound.{command_places, argument_places, most_entries}
+
+-- Places for commands, places for arguments, and the most entries that an axis takes in from one arming to the next.
+abbrev pub command_places : ℕ
+command_places = 128
+
+abbrev pub argument_places : ℕ
+argument_places = 64
+
+abbrev pub most_entries : ℕ
+most_entries = 1000000000
 
 pub record View : Type 0 where
   -- the waiting entries, head first
@@ -24,18 +31,9 @@ paired [] zs = []
 paired (c ∷ cs) zs =
     record { code = c; operand = cond (takes c) (slice_index_or zs 0 (pos 0)) (pos 0) } ∷ paired cs (cond (takes c) (drop 1 zs) zs)
 
--- The codes and the arguments that wait.
-abbrev pub codes : AxisQueue → List Code
-codes q = held q.commands q.command_head q.command_len
-
-abbrev pub operands : AxisQueue → List ℤ
-operands q = held q.arguments q.argument_head q.argument_len
-
-abbrev pub waiting : AxisQueue → List Entry
-waiting q = paired (codes q) (operands q)
-
-abbrev pub view : AxisQueue → View
-view q = record { entries = waiting q; plan = q.plan; count = q.count }
+-- The queue that these codes, arguments, plan and count make.
+abbrev pub seen : List Code → List ℤ → Option ℤ → ℕ → View
+seen codes arguments p n = record { entries = paired codes arguments; plan = p; count = n }
 
 -- A new queue, and one that was armed anew.
 abbrev pub fresh : View

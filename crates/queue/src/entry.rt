@@ -2,11 +2,13 @@
 ghost use Rattle.std.specs.Prelude.{◌≡◌, [], ◌∷◌, length};
 ghost use Rattle.queue.specs.Entries.{code_number, takes, settled, listed, argument_count, in_range, ranged};
 
+use std::fmt;
+
 /// The greatest size of a count; an argument place holds a count.
 pub const GREATEST_COUNT: i64 = 2_147_483_646;
 
 /// What an entry asks for when it is executed.
-#[derive(Clone, Copy)]
+#[derive(Clone, Copy, Debug, PartialEq, Eq)]
 pub enum Code {
     /// The plan is the operand.
     Ma = 1,
@@ -27,6 +29,7 @@ pub enum Code {
 }
 
 impl Code {
+    /// The number by which a host reads the code.
     pub fn number(self) -> u8
         ensures { result ≡ code_number self }
     {
@@ -36,15 +39,34 @@ impl Code {
     pub fn takes_argument(self) -> bool
         ensures { result ≡ takes self }
     {
-        match self {
-            Code::Go | Code::Ws => false,
-            _ => true,
-        }
+        !matches!(self, Code::Go | Code::Ws)
+    }
+}
+
+/// The two letters of the code.
+impl fmt::Display for Code {
+    ghost use Rattle.std.specs.Prelude.{Some};
+    ghost use Rattle.queue.specs.Entries.{code_letters};
+
+    ghost output = { λ code. Some (code_letters code) };
+
+    fn fmt<W: fmt::Write>(&self, f: &mut fmt::Formatter<W>) -> fmt::Result {
+        f.write_str(match self {
+            Code::Ma => "MA",
+            Code::Mr => "MR",
+            Code::Go => "GO",
+            Code::Bh => "BH",
+            Code::Bl => "BL",
+            Code::Sw => "SW",
+            Code::Bw => "BW",
+            Code::Ws => "WS",
+        })
     }
 }
 
 /// A code with its operand, which means nothing where the code takes no argument.
-#[derive(Clone, Copy)]
+/// By a rule of the project codes and operands wait in rings of their own, so the code does not hold its operand.
+#[derive(Clone, Copy, Debug, PartialEq, Eq)]
 pub struct Entry {
     pub code: Code,
     pub operand: i64,
@@ -55,20 +77,19 @@ impl Entry {
     fn arguments(self) -> usize
         ensures { result ≡ argument_count (self ∷ []) }
     {
-        if self.code.takes_argument() { 1 } else { 0 }
+        usize::from(self.code.takes_argument())
     }
 
     /// Whether its argument, if it has one, is in the range of counts.
     fn in_range(self) -> bool
         ensures { result ≡ in_range (settled self).operand }
     {
-        !self.code.takes_argument()
-            || (-GREATEST_COUNT <= self.operand && self.operand <= GREATEST_COUNT)
+        !self.code.takes_argument() || (-GREATEST_COUNT..=GREATEST_COUNT).contains(&self.operand)
     }
 }
 
-/// What one command places on one axis.
-#[derive(Clone, Copy)]
+/// What one command places on one axis. Each method is a match: a loop over one or two entries would be no plainer.
+#[derive(Clone, Copy, Debug, PartialEq, Eq)]
 pub enum Batch {
     One(Entry),
     Two(Entry, Entry),

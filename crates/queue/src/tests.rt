@@ -1,3 +1,4 @@
+//! A queue that fills, and one whose places are used again.
 use crate::axis::{AxisQueue, COMMAND_PLACES};
 use crate::entry::{Batch, Code, Entry};
 use std::test::Fail;

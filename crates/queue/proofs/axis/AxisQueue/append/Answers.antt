@@ -1,24 +1,29 @@
-use Rattle.std.proofs.Common.{arith, rules}
-use Rattle.queue.proofs.Waits.{length-waiting, arguments_waiting, length-arguments, taking_push, in_range_push, paired_plain, paired_more}
+use Rattle.std.proofs.Common.{◌≡◌, [], ◌∷◌, ◌++◌, rules}
+use Rattle.queue.proofs.Waits.{added_plain, added_more}
 use Rattle.queue.proofs.axis.AxisQueue.append.Goals as goal
 
-pub add_back-requires : goal.add_back-requires
-add_back-requires c = let n = length-waiting c.args.self.now in search rules
-
 pub invariant_of-self : goal.invariant_of-self
-invariant_of-self c = let n = length-waiting c.args.self.now in search (rules, taking_push)
+invariant_of-self c =
+    let q = c.self.inside in
+    let more = added_more q.commands q.arguments q.plan q.count c.args.entry (search rules) c.self.invariant (rw c.self.view_is c.requires) in
+    let arguments : c.push_back-then-takes_argument.new.self ≡ q.arguments ++ c.args.entry.operand ∷ [] = search rules in
+    rw (arguments, c.push_back.ensures) more.1
 
-pub returns-then-not-takes_argument : goal.returns-then-not-takes_argument
-returns-then-not-takes_argument c = grind (arith, paired_plain)
+pub returns-then-takes_argument : goal.returns-then-takes_argument
+returns-then-takes_argument c =
+    let q = c.self.inside in
+    let more = added_more q.commands q.arguments q.plan q.count c.args.entry (search rules) c.self.invariant (rw c.self.view_is c.requires) in
+    let arguments : c.push_back-then-takes_argument.new.self ≡ q.arguments ++ c.args.entry.operand ∷ [] = search rules in
+    rw (arguments, c.push_back.ensures, ← c.self.view_is) more.0
 
-pub add_back-requires-2 : goal.add_back-requires-2
-add_back-requires-2 c = let m = arguments_waiting c.args.self.now in search rules
+pub invariant_of-self-else-takes_argument : goal.invariant_of-self-else-takes_argument
+invariant_of-self-else-takes_argument c =
+    let q = c.self.inside in
+    let plain = added_plain q.commands q.arguments q.plan q.count c.args.entry (search rules) c.self.invariant (rw c.self.view_is c.requires) in
+    rw c.push_back.ensures plain.1
 
-pub invariant_of-self-2 : goal.invariant_of-self-2
-invariant_of-self-2 c =
-    let n = length-waiting c.args.self.now in
-    let m = arguments_waiting c.args.self.now in
-    search (rules, taking_push, in_range_push)
-
-pub returns : goal.returns
-returns c = let k = length-arguments c.args.self.now in grind (arith, paired_more)
+pub returns-else-takes_argument : goal.returns-else-takes_argument
+returns-else-takes_argument c =
+    let q = c.self.inside in
+    let plain = added_plain q.commands q.arguments q.plan q.count c.args.entry (search rules) c.self.invariant (rw c.self.view_is c.requires) in
+    rw (c.push_back.ensures, ← c.self.view_is) plain.0

@@ -1,11 +1,13 @@
-use Rattle.std.proofs.Common.{arith}
-use Rattle.std.proofs.lemmas.List.{append_assoc, length-append, map_push}
-use Rattle.std.proofs.lemmas.Bool.Decides.{nat_tests}
-use Rattle.queue.proofs.Waits.{taking_push}
+use Rattle.std.proofs.Common.{[], ◌∷◌}
+use Rattle.queue.specs.Entries.{settled}
+use Rattle.queue.proofs.Waits.{Roomy-append}
 use Rattle.queue.proofs.axis.AxisQueue.place.Goals as goal
 
-pub append-requires-in-Two-2 : goal.append-requires-in-Two-2
-append-requires-in-Two-2 c = grind (arith, nat_tests, length-append, map_push, taking_push)
+pub append-requires-in-Two : goal.append-requires-in-Two
+append-requires-in-Two c =
+    (Roomy-append c.args.self.now (settled c.in-Two.first ∷ []) (settled c.in-Two.second ∷ []) (rw c.in-Two.is at c.in_ok-room_for.ensures.roomy)).0
 
-pub returns-in-Two : goal.returns-in-Two
-returns-in-Two c = grind (arith, nat_tests, append_assoc)
+pub append-requires-in-Two-2 : goal.append-requires-in-Two-2
+append-requires-in-Two-2 c =
+    rw c.append-in-Two.ensures
+    (Roomy-append c.args.self.now (settled c.in-Two.first ∷ []) (settled c.in-Two.second ∷ []) (rw c.in-Two.is at c.in_ok-room_for.ensures.roomy)).1
