@@ -2,8 +2,8 @@
 use Rattle.std.specs.Prelude.{ℕ, ◌-◌, true, false, List, [], length, pos, Ok, Err, Result}
 use Rattle.drive.specs.declared.axis.Axis.TheVariants.{X, Y, Z, T, U, V, R, S}
 use Rattle.drive.specs.Axes.{index}
-use Rattle.names.specs.declared.mount.Name.{Name}
-use Rattle.names.specs.declared.mount.Name.TheVariants as N
+use Rattle.names.specs.declared.mount.MountName.{MountName}
+use Rattle.names.specs.declared.mount.MountName.TheVariants as N
 use Rattle.names.specs.Tables.{named}
 use Rattle.names.specs.Mount.{mount_names}
 use Rattle.queue.specs.declared.entry.Code.TheVariants.{Ma, Mr, Go, Bh, Bl, Sw, Bw}
@@ -15,12 +15,13 @@ use Rattle.command.specs.declared.request.Request.{Request}
 use Rattle.command.specs.declared.request.Request.TheVariants.{Select, Clear, Positions, Places, ErrorRecord}
 use Rattle.command.specs.declared.request.Refusal.{Refusal}
 use Rattle.command.specs.declared.request.Refusal.TheVariants.{Name as BadName, Mode}
-use Rattle.command.specs.Requests.{Tuning, alone, bare, every, enters}
+use Rattle.command.specs.declared.request.Settings.{Settings}
+use Rattle.command.specs.Requests.{alone, bare, every, enters}
 use Rattle.command.specs.Fields.{then, only}
 use Rattle.command.specs.Operands.{units_of, pointed, measured, ranged, amount, listed}
 
 -- The table of port M: what follows each name, with one axis selected and in AA.
-abbrev pub follows : Name → Selection → Operand
+abbrev pub follows : MountName → Selection → Operand
 follows N.Ax s = Nothing (Select (One X))
 follows N.Ay s = Nothing (Select (One Y))
 follows N.Az s = Nothing (Select (One Z))
@@ -54,7 +55,7 @@ follows N.Rqc s = Nothing (Places s)
 follows N.HashEr s = Nothing ErrorRecord
 
 -- The request that an operand makes; ts are the settings of the axes.
-abbrev pub taking : List Tuning → Operand → ℕ → List ℕ → Result Request Refusal
+abbrev pub taking : List Settings → Operand → ℕ → List ℕ → Result Request Refusal
 taking ts (Nothing r) at bs = only r at bs
 taking ts (Amount c a) at bs = then (amount (pointed ts (index a)) (measured (units_of ts (index a))) at bs) (λ z. Ok (enters c (alone a z)))
 taking ts (Bit c a) at bs = then (amount false (ranged (pos 0) (pos 15)) at bs) (λ z. Ok (enters c (alone a z)))
@@ -63,10 +64,10 @@ taking ts GoList at bs = then (listed [] at bs) (λ os. Ok (enters Go os))
 taking ts KillList at bs = then (listed [] at bs) (λ os. Ok (Clear os true))
 taking ts Invalid at bs = Err Mode
 
-abbrev pub after_name : Selection → List Tuning → List ℕ → Result (Name × List ℕ) ℕ → Result Request Refusal
+abbrev pub after_name : Selection → List Settings → List ℕ → Result (MountName × List ℕ) ℕ → Result Request Refusal
 after_name s ts text (Ok n) = taking ts (follows n.0 s) (length text - length n.1) n.1
 after_name s ts text (Err p) = Err (BadName p)
 
 -- What a text on port M asks for; its length is right.
-abbrev pub mount : Selection → List Tuning → List ℕ → Result Request Refusal
+abbrev pub mount : Selection → List Settings → List ℕ → Result Request Refusal
 mount s ts text = after_name s ts text (named mount_names text)

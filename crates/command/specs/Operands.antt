@@ -9,15 +9,16 @@ use Rattle.drive.specs.Axes.{each}
 use Rattle.command.specs.declared.fields.Field.{Field}
 use Rattle.command.specs.declared.request.Refusal.{Refusal}
 use Rattle.command.specs.declared.request.Refusal.TheVariants.{Range}
-use Rattle.command.specs.Requests.{Tuning, Operands}
+use Rattle.command.specs.declared.request.Settings.{Settings}
+use Rattle.command.specs.Requests.{Operands}
 use Rattle.command.specs.Fields.{Fields, then, before, single, list}
 
 -- The factor of the axis of index `k`, where its units are on: they are off beyond the settings that are given.
-abbrev pub units_of : List Tuning → ℕ → Option Fixed
+abbrev pub units_of : List Settings → ℕ → Option Fixed
 units_of ts k = (slice_index_or ts k (record { units = None })).units
 
 -- Its numbers may have a point where its units are on.
-abbrev pub pointed : List Tuning → ℕ → Bool
+abbrev pub pointed : List Settings → ℕ → Bool
 pointed ts k = is_some (units_of ts k)
 
 abbrev pub in_range : ℤ → Option ℤ
@@ -45,7 +46,7 @@ operand units None = Ok None
 operand units (Some f) = then (kept f.at (measured units f.number)) (λ z. Ok (Some z))
 
 -- The operands of the axes from index `k` on: the first number that is out of range decides.
-abbrev pub operands : List Tuning → ℕ → Fields → Result Operands Refusal
+abbrev pub operands : List Settings → ℕ → Fields → Result Operands Refusal
 operands ts k [] = Ok []
 operands ts k (f ∷ fs) = then (operand (units_of ts k) f) (λ o. before o (operands ts (k + 1) fs))
 
@@ -54,5 +55,5 @@ abbrev pub amount : {A : Type 0} → Bool → (Number → Option A) → ℕ → 
 amount point judge at bs = then (single point at bs) (λ f. kept f.at (judge f.number))
 
 -- A list of numbers, each in the units of its axis.
-abbrev pub listed : List Tuning → ℕ → List ℕ → Result Operands Refusal
+abbrev pub listed : List Settings → ℕ → List ℕ → Result Operands Refusal
 listed ts at bs = then (list (each (pointed ts)) at bs) (operands ts 0)

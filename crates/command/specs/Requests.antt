@@ -1,6 +1,5 @@
 -- What a request does to each axis, and what a refusal tells. Assumes nothing.
-use Rattle.std.specs.Prelude.{ℕ, ◌+◌, Bool, true, false, List, [], take, replicate, ℤ, pos, is_some, Some, None, Ok, Err, Option, Result, ◌==◌, slice_index_or, slice_set}
-use Rattle.text.specs.Decimals.{Fixed, fixed, given}
+use Rattle.std.specs.Prelude.{ℕ, ◌+◌, Bool, true, false, List, [], take, replicate, ℤ, pos, is_some, Some, None, Option, ◌==◌, slice_index_or, slice_set}
 use Rattle.drive.specs.declared.axis.Axis.{Axis}
 use Rattle.drive.specs.Axes.{axes, index}
 use Rattle.queue.specs.declared.entry.Code.{Code}
@@ -9,9 +8,6 @@ use Rattle.queue.specs.declared.entry.Entry.{Entry}
 use Rattle.queue.specs.declared.entry.Batch.{Batch}
 use Rattle.queue.specs.declared.entry.Batch.TheVariants as Batches
 use Rattle.queue.specs.Entries.{listed}
-use Rattle.command.specs.declared.request.Settings.{Settings}
-use Rattle.command.specs.declared.request.Setting.{Setting}
-use Rattle.command.specs.declared.request.Setting.TheVariants as Sets
 use Rattle.command.specs.declared.request.Selection.{Selection}
 use Rattle.command.specs.declared.request.Selection.TheVariants.{One, All}
 use Rattle.command.specs.declared.request.Request.{Request}
@@ -19,36 +15,6 @@ use Rattle.command.specs.declared.request.Request.TheVariants.{Select, Place, Cl
 use Rattle.command.specs.declared.request.Notice.{Notice}
 use Rattle.command.specs.declared.request.Refusal.{Refusal}
 use Rattle.command.specs.declared.request.Refusal.TheVariants.{Length, Name, Mode, Form, Range}
-
--- What is set of an axis: the factor, where its units are on.
-pub record Tuning : Type 0 where
-  pub units : Option Fixed
-
-abbrev pub tuning : Settings → Tuning
-tuning s = record { units = given s.units }
-
--- What Set is asked for.
-pub data Change : Type 0 where
-  -- its own axis changes
-  select : Axis → Change
-  -- units on, with this factor
-  units_on : Fixed → Change
-  units_off : Change
-  -- the contact is a kill input, and kills at this level
-  kill_input : ℕ → Bool → Change
-  no_kill_inputs : Change
-
-abbrev pub change : Setting → Change
-change (Sets.Select a) = select a
-change (Sets.UnitsOn d) = units_on (fixed d)
-change Sets.UnitsOff = units_off
-change (Sets.KillInput bit level) = kill_input bit level
-change Sets.NoKillInputs = no_kill_inputs
-
--- What a call gives back.
-abbrev pub changed : Result Setting Refusal → Result Change Refusal
-changed (Ok s) = Ok (change s)
-changed (Err e) = Err e
 
 -- For each axis its operand, or none where it is not named.
 abbrev pub Operands : Type 0

@@ -1,12 +1,12 @@
 //! Texts of port P.
-ghost use Rattle.std.specs.Prelude.{◌≡◌, ◌+◌, ◌^◌, ◌<◌, ◌≤◌, length, IfSome};
+ghost use Rattle.std.specs.Prelude.{◌≡◌, ◌<◌, ◌≤◌, length, IfSome};
 ghost use Rattle.command.specs.Bench.{digit_at, addressed, address, moving, asked, to_address, bench};
 
-use crate::fields::nothing_more;
 use crate::operands::read_whole;
 use crate::request::{Command, Refusal, Request, Selection, alone, bare, enters};
+use crate::tail::Tail;
 use drive::axis::Axis;
-use names::{BenchName, bench_name_of};
+use names::BenchName;
 use queue::entry::Code;
 
 /// The most counts of a move.
@@ -25,7 +25,7 @@ fn numbered(number: u8, width: usize) -> Option<Address>
     ensures same { IfSome result (λ g. g.width ≡ width) }
 {
     let index = number.checked_sub(1)?;
-    let axis = Axis::at(index as usize)?;
+    let axis = Axis::at(usize::from(index))?;
     Some(Address { axis, width })
 }
 
@@ -34,10 +34,9 @@ fn digit_at(text: &[u8], i: usize) -> Option<u8>
     ensures value { result ≡ digit_at text.now i }
     ensures small { IfSome result (λ d. (d ≤ 9) × (i < length text.now)) }
 {
-    if i < text.len() && text[i].is_ascii_digit() {
-        Some(text[i] - b'0')
-    } else {
-        None
+    match text.get(i) {
+        Some(digit @ b'0'..=b'9') => Some(digit - b'0'),
+        _ => None,
     }
 }
 
@@ -58,14 +57,12 @@ fn address_of(text: &[u8], last: Axis) -> Option<Address>
 }
 
 /// A move and a GO, by a number of counts or by none.
-fn read_move(code: Code, axis: Axis, rest: &[u8], at: usize) -> Result<Request, Refusal>
-    requires { at + length rest.now < 2 ^ 64 }
-    ensures { result ≡ moving code axis at rest.now }
+fn read_move(code: Code, axis: Axis, rest: Tail) -> Result<Request, Refusal>
+    ensures { result ≡ moving code axis rest.entry.at rest.entry.bytes.now }
 {
-    let counts = if rest.is_empty() {
-        0
-    } else {
-        read_whole(rest, at, -MOST_COUNTS, MOST_COUNTS)?
+    let counts = match rest.bytes {
+        [] => 0,
+        _ => read_whole(rest, -MOST_COUNTS, MOST_COUNTS)?,
     };
     Ok(Request::Place {
         code,
@@ -75,13 +72,12 @@ fn read_move(code: Code, axis: Axis, rest: &[u8], at: usize) -> Result<Request, 
 }
 
 /// The table of port P.
-fn read_operand(name: BenchName, axis: Axis, rest: &[u8], at: usize) -> Result<Request, Refusal>
-    requires { at + length rest.now < 2 ^ 64 }
-    ensures { result ≡ asked name axis at rest.now }
+fn read_operand(name: BenchName, axis: Axis, rest: Tail) -> Result<Request, Refusal>
+    ensures { result ≡ asked name axis rest.entry.at rest.entry.bytes.now }
 {
     let request = match name {
-        BenchName::Pr => return read_move(Code::Mr, axis, rest, at),
-        BenchName::Pa => return read_move(Code::Ma, axis, rest, at),
+        BenchName::Pr => return read_move(Code::Mr, axis, rest),
+        BenchName::Pa => return read_move(Code::Ma, axis, rest),
         BenchName::St => Request::Clear {
             operands: bare(axis),
             halt: true,
@@ -89,7 +85,7 @@ fn read_operand(name: BenchName, axis: Axis, rest: &[u8], at: usize) -> Result<R
         BenchName::Ws => enters(Code::Ws, bare(axis)),
         BenchName::Tp => Request::Positions(Selection::One(axis)),
     };
-    nothing_more(rest, at)?;
+    rest.end()?;
     Ok(request)
 }
 
@@ -99,25 +95,18 @@ fn read_addressed(text: &[u8], address: Address) -> Result<Command, Refusal>
     ensures { result ≡ to_address text.now address }
 {
     let Address { axis, width } = address;
-    match bench_name_of(&text[width..]) {
-        Ok(named) => {
-            let at = text.len() - named.rest.len();
-            let request = read_operand(named.name, axis, named.rest, at)?;
-            Ok(Command {
-                request,
-                last: axis,
-            })
-        }
-        Err(place) => Err(Refusal::Name(width + place)),
-    }
+    let (name, rest) = Tail::whole(text).skip(width).name()?;
+    let request = read_operand(name, axis, rest)?;
+    Ok(Command {
+        request,
+        last: axis,
+    })
 }
 
 /// What a text on port P asks for.
 pub(crate) fn read_bench(text: &[u8], last: Axis) -> Result<Command, Refusal>
     ensures { result ≡ bench last text.now }
 {
-    match address_of(text, last) {
-        Some(address) => read_addressed(text, address),
-        None => Err(Refusal::Name(0)),
-    }
+    let address = address_of(text, last).ok_or(Refusal::Name(0))?;
+    read_addressed(text, address)
 }

@@ -8,5 +8,6 @@ mod operands;
 mod reading;
 pub mod request;
 mod setting;
+mod tail;
 
 pub use reading::{LONGEST, read, read_setting};

@@ -1,16 +1,16 @@
 //! Texts of port M.
-ghost use Rattle.std.specs.Prelude.{◌≡◌, ◌+◌, ◌^◌, ◌<◌, map, length};
-ghost use Rattle.command.specs.Requests.{tuning};
+ghost use Rattle.std.specs.Prelude.{◌≡◌};
 ghost use Rattle.command.specs.Mount.{follows, taking, mount};
 
-use crate::fields::nothing_more;
 use crate::operands::{read_amount, read_operands, read_whole, units_of};
 use crate::request::{Operands, Refusal, Request, Selection, Settings, alone, bare, enters, every};
+use crate::tail::Tail;
 use drive::axis::Axis;
-use names::{Name, name_of};
+use names::MountName;
 use queue::entry::Code;
 
 /// What follows a name, and the request that it makes.
+/// A value, and no closure, so that the table of port M is one row for each case.
 #[derive(Clone, Copy)]
 pub(crate) enum Operand {
     Nothing(Request),
@@ -43,71 +43,66 @@ fn clears(operands: Operands, halt: bool) -> Operand
 }
 
 /// The table of port M.
-fn follows(name: Name, selection: Selection) -> Operand
+fn follows(name: MountName, selection: Selection) -> Operand
     ensures { result ≡ follows name selection }
 {
+    // A function from a name to its axis would hold the same eight rows.
     match (name, selection) {
-        (Name::Ax, _) => selects(Selection::One(Axis::X)),
-        (Name::Ay, _) => selects(Selection::One(Axis::Y)),
-        (Name::Az, _) => selects(Selection::One(Axis::Z)),
-        (Name::At, _) => selects(Selection::One(Axis::T)),
-        (Name::Au, _) => selects(Selection::One(Axis::U)),
-        (Name::Av, _) => selects(Selection::One(Axis::V)),
-        (Name::Ar, _) => selects(Selection::One(Axis::R)),
-        (Name::As, _) => selects(Selection::One(Axis::S)),
-        (Name::Aa, _) => selects(Selection::All),
-        (Name::Ma, Selection::One(axis)) => Operand::Amount(Code::Ma, axis),
-        (Name::Ma, Selection::All) => Operand::Amounts(Code::Ma),
-        (Name::Mr, Selection::One(axis)) => Operand::Amount(Code::Mr, axis),
-        (Name::Mr, Selection::All) => Operand::Amounts(Code::Mr),
-        (Name::Go, Selection::One(axis)) => Operand::Nothing(enters(Code::Go, bare(axis))),
-        (Name::Go, Selection::All) => Operand::GoList,
-        (Name::Bh, Selection::One(axis)) => Operand::Bit(Code::Bh, axis),
-        (Name::Bh, Selection::All) => Operand::Invalid,
-        (Name::Bl, Selection::One(axis)) => Operand::Bit(Code::Bl, axis),
-        (Name::Bl, Selection::All) => Operand::Invalid,
-        (Name::Sw, Selection::One(axis)) => Operand::Bit(Code::Sw, axis),
-        (Name::Sw, Selection::All) => Operand::Invalid,
-        (Name::Bw, Selection::One(axis)) => Operand::Bit(Code::Bw, axis),
-        (Name::Bw, Selection::All) => Operand::Invalid,
-        (Name::Kl, _) => clears(every(), true),
-        (Name::Ks, Selection::One(axis)) => clears(bare(axis), true),
-        (Name::Ks, Selection::All) => Operand::KillList,
-        (Name::Fl, Selection::One(axis)) => clears(bare(axis), false),
-        (Name::Fl, Selection::All) => Operand::Invalid,
-        (Name::Rp, _) => Operand::Nothing(Request::Positions(selection)),
-        (Name::Rqc, _) => Operand::Nothing(Request::Places(selection)),
-        (Name::HashEr, _) => Operand::Nothing(Request::ErrorRecord),
+        (MountName::Ax, _) => selects(Selection::One(Axis::X)),
+        (MountName::Ay, _) => selects(Selection::One(Axis::Y)),
+        (MountName::Az, _) => selects(Selection::One(Axis::Z)),
+        (MountName::At, _) => selects(Selection::One(Axis::T)),
+        (MountName::Au, _) => selects(Selection::One(Axis::U)),
+        (MountName::Av, _) => selects(Selection::One(Axis::V)),
+        (MountName::Ar, _) => selects(Selection::One(Axis::R)),
+        (MountName::As, _) => selects(Selection::One(Axis::S)),
+        (MountName::Aa, _) => selects(Selection::All),
+        (MountName::Ma, Selection::One(axis)) => Operand::Amount(Code::Ma, axis),
+        (MountName::Ma, Selection::All) => Operand::Amounts(Code::Ma),
+        (MountName::Mr, Selection::One(axis)) => Operand::Amount(Code::Mr, axis),
+        (MountName::Mr, Selection::All) => Operand::Amounts(Code::Mr),
+        (MountName::Go, Selection::One(axis)) => Operand::Nothing(enters(Code::Go, bare(axis))),
+        (MountName::Go, Selection::All) => Operand::GoList,
+        (MountName::Bh, Selection::One(axis)) => Operand::Bit(Code::Bh, axis),
+        (MountName::Bh, Selection::All) => Operand::Invalid,
+        (MountName::Bl, Selection::One(axis)) => Operand::Bit(Code::Bl, axis),
+        (MountName::Bl, Selection::All) => Operand::Invalid,
+        (MountName::Sw, Selection::One(axis)) => Operand::Bit(Code::Sw, axis),
+        (MountName::Sw, Selection::All) => Operand::Invalid,
+        (MountName::Bw, Selection::One(axis)) => Operand::Bit(Code::Bw, axis),
+        (MountName::Bw, Selection::All) => Operand::Invalid,
+        (MountName::Kl, _) => clears(every(), true),
+        (MountName::Ks, Selection::One(axis)) => clears(bare(axis), true),
+        (MountName::Ks, Selection::All) => Operand::KillList,
+        (MountName::Fl, Selection::One(axis)) => clears(bare(axis), false),
+        (MountName::Fl, Selection::All) => Operand::Invalid,
+        (MountName::Rp, _) => Operand::Nothing(Request::Positions(selection)),
+        (MountName::Rqc, _) => Operand::Nothing(Request::Places(selection)),
+        (MountName::HashEr, _) => Operand::Nothing(Request::ErrorRecord),
     }
 }
 
 /// The request that the operand makes.
-fn read_operand(
-    operand: Operand,
-    rest: &[u8],
-    at: usize,
-    settings: &[Settings],
-) -> Result<Request, Refusal>
-    requires { at + length rest.now < 2 ^ 64 }
-    ensures { result ≡ taking (map tuning settings.now) operand at rest.now }
+fn read_operand(operand: Operand, rest: Tail, settings: &[Settings]) -> Result<Request, Refusal>
+    ensures { result ≡ taking settings.now operand rest.entry.at rest.entry.bytes.now }
 {
     match operand {
         Operand::Nothing(request) => {
-            nothing_more(rest, at)?;
+            rest.end()?;
             Ok(request)
         }
         Operand::Amount(code, axis) => {
-            let counts = read_amount(rest, at, units_of(settings, axis.index()))?;
+            let counts = read_amount(rest, units_of(settings, axis))?;
             Ok(enters(code, alone(axis, counts)))
         }
         Operand::Bit(code, axis) => {
-            let bit = read_whole(rest, at, 0, 15)?;
+            let bit = read_whole(rest, 0, 15)?;
             Ok(enters(code, alone(axis, bit)))
         }
-        Operand::Amounts(code) => Ok(enters(code, read_operands(rest, at, settings)?)),
-        Operand::GoList => Ok(enters(Code::Go, read_operands(rest, at, &[])?)),
+        Operand::Amounts(code) => Ok(enters(code, read_operands(rest, settings)?)),
+        Operand::GoList => Ok(enters(Code::Go, read_operands(rest, &[])?)),
         Operand::KillList => Ok(Request::Clear {
-            operands: read_operands(rest, at, &[])?,
+            operands: read_operands(rest, &[])?,
             halt: true,
         }),
         Operand::Invalid => Err(Refusal::Mode),
@@ -120,13 +115,8 @@ pub(crate) fn read_mount(
     selection: Selection,
     settings: &[Settings],
 ) -> Result<Request, Refusal>
-    ensures { result ≡ mount selection (map tuning settings.now) text.now }
+    ensures { result ≡ mount selection settings.now text.now }
 {
-    match name_of(text) {
-        Ok(named) => {
-            let at = text.len() - named.rest.len();
-            read_operand(follows(named.name, selection), named.rest, at, settings)
-        }
-        Err(place) => Err(Refusal::Name(place)),
-    }
+    let (name, rest) = Tail::whole(text).name()?;
+    read_operand(follows(name, selection), rest, settings)
 }

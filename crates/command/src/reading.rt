@@ -1,6 +1,5 @@
 //! What one text asks for, on either port and in Set.
-ghost use Rattle.std.specs.Prelude.{◌≡◌, map};
-ghost use Rattle.command.specs.Requests.{tuning, changed};
+ghost use Rattle.std.specs.Prelude.{◌≡◌};
 ghost use Rattle.command.specs.Reading.{fits, on_port, read, read_setting};
 
 use crate::bench::read_bench;
@@ -15,12 +14,12 @@ pub const LONGEST: usize = 160;
 fn has_length(text: &[u8]) -> bool
     ensures { result ≡ fits text.now }
 {
-    1 <= text.len() && text.len() <= LONGEST
+    (1..=LONGEST).contains(&text.len())
 }
 
 /// By the port, a text of the right length.
 fn read_on(port: Port, text: &[u8], context: &Context) -> Result<Command, Refusal>
-    ensures { result ≡ on_port port context.now.selection context.now.last (map tuning context.now.settings.now) text.now }
+    ensures { result ≡ on_port port context.now.selection context.now.last context.now.settings.now text.now }
 {
     match port {
         Port::M => {
@@ -35,8 +34,9 @@ fn read_on(port: Port, text: &[u8], context: &Context) -> Result<Command, Refusa
 }
 
 /// What a text of a command asks for, or why it is refused.
+#[tactic(auto, unfolding(crate::specs::Reading::read))]
 pub fn read(port: Port, text: &[u8], context: &Context) -> Result<Command, Refusal>
-    ensures { result ≡ read port context.now.selection context.now.last (map tuning context.now.settings.now) text.now }
+    ensures { result ≡ read port context.now.selection context.now.last context.now.settings.now text.now }
 {
     if has_length(text) {
         read_on(port, text, context)
@@ -46,8 +46,9 @@ pub fn read(port: Port, text: &[u8], context: &Context) -> Result<Command, Refus
 }
 
 /// What a text of Set asks for, or why it is refused.
+#[tactic(auto, unfolding(crate::specs::Reading::read_setting))]
 pub fn read_setting(text: &[u8]) -> Result<Setting, Refusal>
-    ensures { changed result ≡ read_setting text.now }
+    ensures { result ≡ read_setting text.now }
 {
     if has_length(text) {
         read_set(text)

@@ -1,5 +1,5 @@
 //! What a text asks for, and how it is refused.
-ghost use Rattle.std.specs.Prelude.{◌≡◌, ◌+◌, take, None, slice_index_or};
+ghost use Rattle.std.specs.Prelude.{◌≡◌, ◌+◌, take};
 ghost use Rattle.drive.specs.Axes.{index};
 ghost use Rattle.command.specs.Requests.{alone, bare, every, enters, batch, batch_on, clears_on, notice, recorded};
 
@@ -8,14 +8,14 @@ use queue::entry::{Batch, Code, Entry};
 use text::Decimal;
 
 /// The port that a text came in by: the mount's or the bench's.
-#[derive(Clone, Copy)]
+#[derive(Clone, Copy, Debug, PartialEq, Eq)]
 pub enum Port {
     M,
     P,
 }
 
 /// What port M's commands go to: one axis, or all of them (AA).
-#[derive(Clone, Copy)]
+#[derive(Clone, Copy, Debug, PartialEq, Eq)]
 pub enum Selection {
     One(Axis),
     All,
@@ -89,7 +89,7 @@ pub enum Setting {
 }
 
 /// Why a text is refused; the place is that of a byte of the text, or the text's length.
-#[derive(Clone, Copy)]
+#[derive(Clone, Copy, Debug, PartialEq, Eq)]
 pub enum Refusal {
     /// The text is empty or too long.
     Length,
@@ -103,8 +103,8 @@ pub enum Refusal {
     Range(usize),
 }
 
-/// What is told of a refusal; the axis is its number, or 0 where none is to blame.
-#[derive(Clone, Copy)]
+/// What a host is told of a refusal: numbers are its format. The axis is its number, or 0 where none is to blame.
+#[derive(Clone, Copy, Debug, PartialEq, Eq)]
 pub struct Notice {
     pub number: u8,
     pub place: usize,
@@ -112,6 +112,7 @@ pub struct Notice {
 }
 
 /// One axis is named.
+#[tactic(auto, unfolding(drive::specs::Axes::axes))]
 pub(crate) fn alone(axis: Axis, operand: i64) -> Operands
     ensures { result ≡ alone axis operand }
 {
@@ -128,6 +129,7 @@ pub(crate) fn bare(axis: Axis) -> Operands
 }
 
 /// Every axis is named.
+#[tactic(auto, unfolding(drive::specs::Axes::axes))]
 pub(crate) fn every() -> Operands
     ensures { result ≡ every }
 {
@@ -145,27 +147,11 @@ pub(crate) fn enters(code: Code, operands: Operands) -> Request
     }
 }
 
-/// The operand of an axis, if the axis is named.
-fn operand_of(operands: &[Option<i64>], axis: Axis) -> Option<i64>
-    ensures { result ≡ slice_index_or operands.now (index axis) None }
-{
-    let i = axis.index();
-    if i < operands.len() {
-        operands[i]
-    } else {
-        None
-    }
-}
-
 /// The text through the byte at `at`, or the whole text where it has no such byte.
 fn through(text: &[u8], at: usize) -> &[u8]
     ensures { result.now ≡ take (at + 1) text.now }
 {
-    if at < text.len() {
-        &text[0..at + 1]
-    } else {
-        text
-    }
+    text.get(..=at).unwrap_or(text)
 }
 
 /// An entry, and a GO after it or not.
@@ -195,7 +181,7 @@ impl Request {
                 operands,
                 then_go,
             } => {
-                let operand = operand_of(operands, axis)?;
+                let operand = operands[axis.index()]?;
                 Some(batch_of(*code, *then_go, operand))
             }
             _ => None,
@@ -207,13 +193,14 @@ impl Request {
         ensures { result ≡ clears_on self.now (index axis) }
     {
         match self {
-            Request::Clear { operands, .. } => operand_of(operands, axis).is_some(),
+            Request::Clear { operands, .. } => operands[axis.index()].is_some(),
             _ => false,
         }
     }
 }
 
 impl Refusal {
+    /// What a host is told of it: a number, as the rule book has it.
     pub fn notice(self) -> Notice
         ensures { result ≡ notice self }
     {

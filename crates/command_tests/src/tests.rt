@@ -11,7 +11,7 @@ use text::Decimal;
 
 const ONE: Selection = Selection::One(Axis::X);
 
-/// A text, with the number and the place of its refusal: 0 and 0 where it is taken.
+/// A text, with the number and the place of its refusal.
 struct Judged(&'static [u8], u8, usize);
 
 const MOUNT_ONE: [Judged; 17] = [
@@ -93,14 +93,10 @@ const SET: [Judged; 22] = [
     Judged(b"IOK16,2", 8, 3),
 ];
 
-fn told(refusal: Option<Refusal>) -> (u8, usize) {
-    match refusal {
-        Some(refusal) => {
-            let notice = refusal.notice();
-            (notice.number, notice.place)
-        }
-        None => (0, 0),
-    }
+/// The number and the place of a refusal.
+fn told(refusal: Refusal) -> (u8, usize) {
+    let notice = refusal.notice();
+    (notice.number, notice.place)
 }
 
 /// What a text asks for, with Y as port P's last axis.
@@ -124,9 +120,9 @@ fn command(port: Port, selection: Selection, text: &[u8]) -> Result<Command, Ref
 }
 
 fn check_table(rt: &impl Abort, port: Port, selection: Selection, rows: &[Judged]) {
-    for row in rows {
-        let result = command(port, selection, row.0);
-        assert_eq!(rt; told(result.err()), (row.1, row.2));
+    for &Judged(text, number, place) in rows {
+        let refusal = command(port, selection, text).err();
+        assert_eq!(rt; refusal.map(told), Some((number, place)));
     }
 }
 
@@ -135,14 +131,15 @@ fn refused(rt: HostRuntime) {
     check_table(&rt, Port::M, ONE, &MOUNT_ONE);
     check_table(&rt, Port::M, Selection::All, &MOUNT_ALL);
     check_table(&rt, Port::P, ONE, &BENCH);
-    for row in &SET {
-        assert_eq!(rt; told(read_setting(row.0).err()), (row.1, row.2));
+    for &Judged(text, number, place) in &SET {
+        let refusal = read_setting(text).err();
+        assert_eq!(rt; refusal.map(told), Some((number, place)));
     }
 }
 
 /// The code, the operands and whether a GO follows.
-fn placed(res: Result<Command, Refusal>) -> Option<(u8, Operands, bool)> {
-    match res.ok()?.request {
+fn placed(outcome: Result<Command, Refusal>) -> Option<(u8, Operands, bool)> {
+    match outcome.ok()?.request {
         Request::Place {
             code,
             operands,
@@ -212,11 +209,10 @@ const PLACED: [Row; 10] = [
 
 #[test]
 fn places(rt: HostRuntime) {
-    for row in &PLACED {
-        let [x, y, z] = row.4;
+    for &Row(port, selection, text, code, [x, y, z], then_go) in &PLACED {
         let operands = [x, y, z, None, None, None, None, None];
-        let result = placed(command(row.0, row.1, row.2));
-        assert_eq!(rt; result, Some((row.3, operands, row.5)));
+        let result = placed(command(port, selection, text));
+        assert_eq!(rt; result, Some((code, operands, then_go)));
     }
 }
 
@@ -232,12 +228,10 @@ fn counts(setting: &[u8], text: &[u8]) -> Result<i64, (u8, usize)> {
     let settings = [Settings {
         units: factor(setting),
     }];
-    match scaled(Port::M, ONE, &settings, text) {
-        Ok(command) => match command.request.batch(Axis::X) {
-            Some(Batch::One(entry)) => Ok(entry.operand),
-            _ => Err((0, 0)),
-        },
-        Err(refusal) => Err(told(Some(refusal))),
+    let command = scaled(Port::M, ONE, &settings, text).map_err(told)?;
+    match command.request.batch(Axis::X) {
+        Some(Batch::One(entry)) => Ok(entry.operand),
+        _ => Err((0, 0)),
     }
 }
 

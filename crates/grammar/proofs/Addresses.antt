@@ -1,9 +1,10 @@
 -- The places of refusals on port P, after the axis number. Assumes nothing.
-use Rattle.std.proofs.Common.{◌≡◌, ℕ, zero, suc, ◌+◌, ◌-◌, ◌*◌, ◌<◌, ◌≤◌, Bool, true, false, cond, ◌&&◌, leb, ◌⊎◌, List, [], ◌∷◌, ◌++◌, length, get_or, take, drop, Some, None, Ok, Err, Option, Result, sym, refl, ap, subst, inl, inr, ⊎_elim, suc-add, arith, length-append}
+use Rattle.std.proofs.Common.{◌≡◌, ℕ, zero, suc, ◌+◌, ◌-◌, ◌*◌, ◌<◌, ◌≤◌, Bool, true, false, cond, ◌&&◌, leb, ◌⊎◌, List, [], ◌∷◌, ◌++◌, length, get_or, take, drop, Some, None, Ok, Err, Option, Result, sym, refl, ap, subst, inl, inr, ⊎_elim, suc-add, arith, rules, length-append}
 use lib.Seq.{drop-append_seam}
 use Rattle.std.specs.Option.{option_map, ok_or}
 use Rattle.std.proofs.lemmas.Option.{slice_get-get_or, slice_get_past}
-use Rattle.std.proofs.lemmas.Bool.{and_from, and_parts, both_ways, cases_lt, le-leb, leb-true}
+use Rattle.std.proofs.lemmas.Bool.{and_parts, cases_lt, cond_both}
+use Rattle.std.proofs.lemmas.Bool.Decides.{nat_tests}
 use Rattle.drive.specs.declared.axis.Axis.{Axis}
 use Rattle.drive.specs.declared.axis.Axis.TheVariants.{X}
 use Rattle.drive.specs.Axes.{axes, in_order}
@@ -12,7 +13,6 @@ use Rattle.names.specs.Tables.{named}
 use Rattle.names.specs.Laws.{Apart, Lawful}
 use Rattle.names.specs.Bench.{bench_names}
 use Rattle.names.proofs.Lawful.{apart_is_lawful}
-use Rattle.queue.specs.declared.entry.Code.TheVariants.{Ma, Mr}
 use Rattle.text.specs.Numbers.{digit}
 use Rattle.text.specs.Typed.{Typed}
 use Rattle.command.specs.declared.request.Command.{Command}
@@ -24,9 +24,10 @@ use Rattle.command.specs.Reading.{fits, read}
 use Rattle.grammar.specs.Forms.{Digit, Digits, Rule, Ruled, here, there, Named, AxisNumber, Addressed, on_bench, RightBench}
 use Rattle.grammar.specs.Forms as form
 use Rattle.grammar.specs.Law.{Begun, Undigited, OnBench, OffBench, Meaning}
-use Rattle.grammar.proofs.Fronts.{Agree, agree_less, agree_tail, Follows}
+use Rattle.grammar.proofs.Fronts.{Agree, agree_less, Follows}
+use Rattle.grammar.proofs.Scanning.{is_digit}
 use Rattle.grammar.proofs.Shapes.{reads_bare, reads_then, reads_moving}
-use Rattle.grammar.proofs.Rules.{Matched, Outcome, outcome, outcome_after, ruled_named, first_rule}
+use Rattle.grammar.proofs.Rules.{Matched, done, row, Outcome, outcome, outcome_after, ruled_named, first_rule}
 use Rattle.grammar.proofs.Meanings.{meaning, meant}
 
 -- a name that begins with no digit
@@ -39,33 +40,29 @@ all_lettered [] = true
 all_lettered (r ∷ rs) = lettered r.1 && all_lettered rs
 
 spelled_undigited : (n w v : List ℕ) → lettered n ≡ true → form.Spelled n w → Undigited (w ++ v)
-spelled_undigited [] w v h sp = let z : ◌≡◌ {A = Bool} false true = h in absurd (both_ways false refl z)
+spelled_undigited [] w v h sp = grind arith
 spelled_undigited (n ∷ ns) [] v h sp = absurd sp
-spelled_undigited (n ∷ ns) (b ∷ w) v h sp = λ d. let high = leb-true 58 n h in ⊎_elim (λ e. omega (arith, d.1)) (λ l. omega (arith, d.1, l.2)) sp.0
+spelled_undigited (n ∷ ns) (b ∷ w) v h sp = grind (arith, nat_tests)
 
 ruled_undigited : {rs : List Rule} {t : List ℕ} → all_lettered rs ≡ true → Ruled rs t → Undigited t
 ruled_undigited h (here s n rs w v sp sh) = spelled_undigited n w v (and_parts (lettered n) (all_lettered rs) h).0 sp
 ruled_undigited h (there r rs t x) = ruled_undigited (and_parts (lettered r.1) (all_lettered rs) h).1 x
 
 axis_digits : (n : List ℕ) → AxisNumber n → Digits n
-axis_digits [] h = tt
-axis_digits (b ∷ []) h = (h.0, tt)
-axis_digits (b ∷ c ∷ []) h = (h.0, (h.1, tt))
-axis_digits (b ∷ c ∷ d ∷ n) h = absurd h
+axis_digits n h = grind arith
 
 -- a digit where none stands
 not_there : (d : ℕ) (t v : List ℕ) → Digit d → Undigited v → Agree 1 (d ∷ t) v → ⊥
-not_there d t [] h u a = let z : ◌≡◌ {A = ℕ} 0 1 = cc in omega arith
-not_there d t (b ∷ v) h u a = u (subst Digit (agree_tail 0 d b t v a).0 h)
+not_there d t [] h u a = cc
+not_there d t (b ∷ v) h u a = grind arith
 
 -- texts that go along past their leading digits have the same
 same_digits : (n m v w : List ℕ) → Digits n → Digits m → Undigited v → Undigited w → Agree (length n + 1) (m ++ w) (n ++ v) → m ≡ n
 same_digits [] [] v w hn hm uv uw a = refl
-same_digits [] (d ∷ m) v w hn hm uv uw a = absurd (not_there d (m ++ w) v hm.0 uv a)
+same_digits [] (d ∷ m) v w hn hm uv uw a = let k = not_there d (m ++ w) v in grind arith
 same_digits (d ∷ n) [] v w hn hm uv uw a =
     absurd (not_there d (n ++ v) w hn.0 uw (sym (agree_less 1 (suc (length n) + 1) w (d ∷ (n ++ v)) (omega arith) a)))
-same_digits (d ∷ n) (e ∷ m) v w hn hm uv uw a =
-    let p = agree_tail (length n + 1) e d (m ++ w) (n ++ v) (rw suc-add at a) in λ i. p.0 i ∷ same_digits n m v w hn.1 hm.1 uv uw p.1 i
+same_digits (d ∷ n) (e ∷ m) v w hn hm uv uw a = let k = same_digits n m v w in grind (arith, suc-add)
 
 module _ (L : List ℕ → Type 0) (some : Begun L []) (plain : (v : List ℕ) → L v → Undigited v) (n v : List ℕ) (an : AxisNumber n) (u : Undigited v) where
   out : {t : List ℕ} → Addressed L t → Agree (length n + 1) t (n ++ v) → (w : List ℕ) × (t ≡ n ++ w) × L w
@@ -89,11 +86,8 @@ data Found (text : List ℕ) : Option Address → Type 0 where
   to : (n v : List ℕ) (a : Axis) → text ≡ n ++ v → AxisNumber n → Undigited v → Found text (Some (at_width (length n) a))
   nowhere : (Addressed Undigited text → ⊥) → Found text None
 
-is_digit : (b : ℕ) → digit b ≡ true → Digit b
-is_digit b h = let p = and_parts (leb 48 b) (leb b 57) h in (leb-true 48 b p.0, leb-true b 57 p.1)
-
 no_digit : (b : ℕ) → digit b ≡ false → Digit b → ⊥
-no_digit b h d = both_ways (digit b) h (and_from (leb 48 b) (leb b 57) (le-leb 48 b d.0) (le-leb b 57 d.1))
+no_digit b h d = grind (arith, nat_tests)
 
 numbers : (m : ℕ) → ((a : Axis) × (numbered m ≡ Some a) × (1 ≤ m) × (m ≤ axes)) ⊎ ((numbered m ≡ None) × (1 ≤ m → m ≤ axes → ⊥))
 unfolding axes
@@ -132,27 +126,24 @@ module _ (last : Axis) (b : ℕ) (hb : Digit b) where
 
     third : (text : List ℕ) → Found (b ∷ c ∷ text) (by_digits last (Some (b - 48)) (Some (c - 48)) (digit_at text 0))
     third [] = found_two [] tt
-    third (d ∷ text) = by (digit d) refl
-      where
-        by : (v : Bool) → digit d ≡ v → Found (b ∷ c ∷ d ∷ text) (by_digits last (Some (b - 48)) (Some (c - 48)) (cond v (Some (d - 48)) None))
-        by true h = nowhere (too_many b c d text hb hc (is_digit d h) refl)
-        by false h = found_two (d ∷ text) (no_digit d h)
+    third (d ∷ text) =
+        cond_both (digit d) (Some (d - 48)) None (λ o. Found (b ∷ c ∷ d ∷ text) (by_digits last (Some (b - 48)) (Some (c - 48)) o))
+        (λ h. nowhere (too_many b c d text hb hc (is_digit d h) refl))
+        (λ h. found_two (d ∷ text) (no_digit d h))
 
   second : (text : List ℕ) → Found (b ∷ text) (by_digits last (Some (b - 48)) (digit_at text 0) (digit_at text 1))
   second [] = found_one [] tt
-  second (c ∷ text) = by (digit c) refl
-    where
-      by : (v : Bool) → digit c ≡ v → Found (b ∷ c ∷ text) (by_digits last (Some (b - 48)) (cond v (Some (c - 48)) None) (digit_at text 0))
-      by true h = third c (is_digit c h) text
-      by false h = found_one (c ∷ text) (no_digit c h)
+  second (c ∷ text) =
+      cond_both (digit c) (Some (c - 48)) None (λ o. Found (b ∷ c ∷ text) (by_digits last (Some (b - 48)) o (digit_at text 0)))
+      (λ h. third c (is_digit c h) text)
+      (λ h. found_one (c ∷ text) (no_digit c h))
 
 found : (last : Axis) (text : List ℕ) → Found text (address last text)
 found last [] = to [] [] last refl tt tt
-found last (b ∷ text) = by (digit b) refl
-  where
-    by : (v : Bool) → digit b ≡ v → Found (b ∷ text) (by_digits last (cond v (Some (b - 48)) None) (digit_at text 0) (digit_at text 1))
-    by true h = second last b (is_digit b h) text
-    by false h = to [] (b ∷ text) last refl tt (no_digit b h)
+found last (b ∷ text) =
+    cond_both (digit b) (Some (b - 48)) None (λ o. Found (b ∷ text) (by_digits last o (digit_at text 0) (digit_at text 1)))
+    (λ h. second last b (is_digit b h) text)
+    (λ h. to [] (b ∷ text) last refl tt (no_digit b h))
 
 named_too : {t : List ℕ} → RightBench t → Addressed (Named on_bench) t
 named_too (form.addressed n v an r) = form.addressed n v an (ruled_named r)
@@ -178,8 +169,7 @@ module _ (law : Typed) (apart : Apart bench_names) where
 
   matched : (a : Axis) → Matched (operand a) bench_names on_bench
   unfolding bench_names
-  matched a =
-      (refl, reads_then _ (reads_moving law Mr a), (refl, reads_then _ (reads_moving law Ma a), (refl, reads_then _ (reads_bare _), (refl, reads_then _ (reads_bare _), (refl, reads_then _ (reads_bare _), tt)))))
+  matched a = search (rules, done, row, reads_then, reads_bare, reads_moving law) depth 60
 
   some : Begun (Ruled on_bench) []
   some = first_rule form.absent
@@ -191,7 +181,7 @@ module _ (law : Typed) (apart : Apart bench_names) where
         (outcome_after n v
         (follows_number (Named on_bench) (some.0, ruled_named some.1) (λ w x. ruled_undigited refl x) n v an u)
         (follows_number (Ruled on_bench) some (λ w x. ruled_undigited refl x) n v an u)
-        (outcome (operand a) bench_names on_bench (matched a) refl lawful (length n) v (after_name (n ++ v) (at_width (length n) a)) (length (n ++ v)) (length-append n v) (λ y. refl) (λ p. refl)))
+        (outcome (matched a) refl lawful (length n) v (after_name (n ++ v) (at_width (length n) a)) (length (n ++ v)) (length-append n v) (λ y. refl) (λ p. refl)))
 
   taken : {text : List ℕ} {o : Option Address} → Found text o → Addressed Undigited text → Meaning (Addressed (Named on_bench)) RightBench text (then (ok_or o (Name 0)) (to_address text))
   taken (to n v a e an u) given =

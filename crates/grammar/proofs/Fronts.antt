@@ -15,12 +15,19 @@ pub agree_tail : (n b c : ℕ) (t bs : List ℕ) → Agree (suc n) (b ∷ t) (c 
 agree_tail n b c t bs a = (cc, cc)
 
 pub agree_cons : (n b : ℕ) (t bs : List ℕ) → Agree (suc n) t (b ∷ bs) → (w : List ℕ) × (t ≡ b ∷ w) × Agree n w bs
-agree_cons n b [] bs a = let z : ◌≡◌ {A = ℕ} 0 1 = cc in absurd (omega arith)
-agree_cons n b (c ∷ t) bs a = let p = agree_tail n c b t bs a in (t, ap (λ x. x ∷ t) p.0, p.1)
+agree_cons n b [] bs a = absurd (cc)
+agree_cons n b (c ∷ t) bs a = (t, cc, cc)
 
 pub agree_nil : (n : ℕ) (t : List ℕ) → Agree (suc n) t [] → t ≡ []
 agree_nil n [] a = refl
-agree_nil n (c ∷ t) a = let z : ◌≡◌ {A = ℕ} 0 1 = cc in absurd (omega arith)
+agree_nil n (c ∷ t) a = cc
+
+-- what is told by the first byte
+pub agree_told : {A : Type 0} (f : List ℕ → A) → ((b : ℕ) (bs : List ℕ) → f (b ∷ bs) ≡ f (b ∷ [])) → (t bs : List ℕ) → Agree 1 t bs → f t ≡ f bs
+agree_told f first [] [] a = refl
+agree_told f first [] (c ∷ bs) a = absurd (cc)
+agree_told f first (b ∷ t) [] a = absurd (cc)
+agree_told f first (b ∷ t) (c ∷ bs) a = first b t ∙ ap (λ x. f (x ∷ [])) (agree_tail 0 b c t bs a).0 ∙ sym (first c bs)
 
 pub agree_drop : (m n : ℕ) (t bs : List ℕ) → Agree (m + n) t bs → Agree n (drop m t) (drop m bs)
 agree_drop m n t bs a = sym (drop-take m n t) ∙ ap (drop m) a ∙ drop-take m n bs

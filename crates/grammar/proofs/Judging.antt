@@ -3,7 +3,8 @@ use Rattle.std.proofs.Common.{◌≡◌, ℕ, suc, ◌+◌, ◌≤◌, Bool, tru
 use Rattle.std.specs.Option.{ok_or}
 use Rattle.std.specs.Str.{all_ascii_digits}
 use Rattle.std.proofs.lemmas.List.{length-take-le}
-use Rattle.std.proofs.lemmas.Bool.{and_from, both_ways, le-leb}
+use Rattle.std.proofs.lemmas.Bool.{both_ways, cond_both}
+use Rattle.std.proofs.lemmas.Bool.Decides.{nat_tests}
 use Rattle.text.specs.declared.number.Number as read
 use Rattle.text.specs.Numbers.{reads}
 use Rattle.text.specs.Typed.{mark, Stops, Typed}
@@ -72,7 +73,7 @@ End w = w ≡ []
 
 pub judged_only : {A : Type 0} (a : A) (at : ℕ) (bs : List ℕ) → Judged End at bs (only a at bs)
 judged_only a at [] = right refl
-judged_only a at (b ∷ bs) = judged_here at (b ∷ bs) (λ t e g. let z : ◌≡◌ {A = ℕ} 0 1 = cc in omega arith)
+judged_only a at (b ∷ bs) = judged_here at (b ∷ bs) (λ t e g. cc)
 
 -- A byte that passes the test, and a text of K after it.
 abbrev pub Byte : (ℕ → Bool) → (List ℕ → Type 0) → List ℕ → Type 0
@@ -84,14 +85,13 @@ module _ {A : Type 0} (test : ℕ → Bool) (K : List ℕ → Type 0) (at : ℕ)
   judged_no_byte = judged_here at [] (λ t l a. subst (Byte test K) (agree_nil 0 t a) l)
 
   pub judged_byte : (k : List ℕ) → K k → (b : ℕ) (bs : List ℕ) (r : Result A Refusal) → Judged K (at + 1) bs r → Judged (Byte test K) at (b ∷ bs) (cond (test b) r (Err (Form at)))
-  judged_byte k kk b bs r h = by (test b) refl
-    where
-      by : (v : Bool) → test b ≡ v → Judged (Byte test K) at (b ∷ bs) (cond v r (Err (Form at)))
-      by true e =
-          judged_after (b ∷ []) bs (b ∷ bs) refl refl
-          (record { some = λ _. (k, kk); into = λ w kw. (e, kw); out = λ t l a. let c = agree_cons 1 b t bs a in (c.0, c.1, (subst (Byte test K) c.1 l).1) })
-          h
-      by false e = judged_here at (b ∷ bs) (λ t l a. let c = agree_cons 0 b t bs a in both_ways (test b) e (subst (Byte test K) c.1 l).0)
+  judged_byte k kk b bs r h =
+      cond_both (test b) r (Err (Form at)) (Judged (Byte test K) at (b ∷ bs))
+      (λ e.
+      judged_after (b ∷ []) bs (b ∷ bs) refl refl
+      (record { some = λ _. (k, kk); into = λ w kw. (e, kw); out = λ t l a. let c = agree_cons 1 b t bs a in (c.0, c.1, (subst (Byte test K) c.1 l).1) })
+      h)
+      (λ e. judged_here at (b ∷ bs) (λ t l a. let c = agree_cons 0 b t bs a in both_ways (test b) e (subst (Byte test K) c.1 l).0))
 
 -- A number, and a text of K after it.
 abbrev pub Numbered : Bool → (List ℕ → Type 0) → List ℕ → Type 0
@@ -99,7 +99,7 @@ Numbered p K t = (v : List ℕ) × (k : List ℕ) × (t ≡ v ++ k) × Number p 
 
 all_digits : (ds : List ℕ) → Digits ds → all_ascii_digits ds ≡ true
 all_digits [] h = refl
-all_digits (d ∷ ds) h = and_from _ _ (and_from _ _ (le-leb 48 d h.0.0) (le-leb d 57 h.0.1)) (all_digits ds h.1)
+all_digits (d ∷ ds) h = let k = all_digits ds in grind (arith, nat_tests)
 
 sign_of : {s : List ℕ} → Sign s → (g : typed.Sign) × (s ≡ mark g)
 sign_of unsigned = (typed.none, refl)
@@ -140,7 +140,7 @@ module _ (law : Typed) where
                 (take s.at bs ++ x.0, some, refl, x.1, somek),
                 ap (take s.at) (append_assoc (take s.at bs) x.0 some) ∙ take_at (take s.at bs) (x.0 ++ some) s.at long,
               );
-          none = λ t m a. let g = same t m a in let z : ◌≡◌ {A = ℕ} 0 1 = cc (is, g.1) in omega arith;
+          none = λ t m a. let g = same t m a in cc (is, g.1);
         })
 
     follows : (n : read.Number) → n.end ≡ (stopped p bs).at → Number p (take n.end bs) → reads p bs ≡ Ok n → Follows (Numbered p K) K (take n.end bs) (drop n.end bs)

@@ -1,6 +1,6 @@
 -- Lists of fields with commas between them. Assumes nothing.
-use Rattle.std.proofs.Common.{◌≡◌, ℕ, zero, suc, ◌+◌, ◌-◌, ◌<◌, ◌≤◌, Bool, true, false, cond, ◌||◌, eqb, List, [], ◌∷◌, ◌++◌, length, take, drop, replicate, Some, None, Ok, Err, Result, sym, refl, ap, ◌∙◌, subst, ⊎_elim, append_assoc, append-nil, add-zero, arith, length-drop}
-use Rattle.std.proofs.lemmas.Bool.{both_ways, eqb-true, ne_eqb, or_cases, or_left, or_right, false≢true, true≢false}
+use Rattle.std.proofs.Common.{◌≡◌, ℕ, zero, suc, ◌+◌, ◌-◌, ◌<◌, ◌≤◌, Bool, true, false, cond, ◌||◌, eqb, List, [], ◌∷◌, ◌++◌, length, drop, replicate, Some, None, Ok, Err, Result, sym, refl, ◌∙◌, subst, ⊎_elim, append_assoc, append-nil, add-zero, arith, length-drop}
+use Rattle.std.proofs.lemmas.Bool.{both_ways, cond_both, eqb-true, ne_eqb, or_cases, or_left, or_right, false≢true, true≢false}
 use Rattle.text.specs.Typed.{Stops, Typed}
 use Rattle.command.specs.declared.request.Refusal.{Refusal}
 use Rattle.command.specs.declared.request.Refusal.TheVariants.{Form}
@@ -8,7 +8,7 @@ use Rattle.command.specs.Fields.{then, leading, empty, slot, after, before, fiel
 use Rattle.command.specs.Fields as reader
 use Rattle.grammar.specs.Forms.{Digits, Sign, unsigned, plus, minus, Number, whole, pointed, Fields}
 use Rattle.grammar.specs.Forms as form
-use Rattle.grammar.proofs.Fronts.{Agree, agree_cons, agree_nil}
+use Rattle.grammar.proofs.Fronts.{Agree, agree_cons, agree_nil, agree_told}
 use Rattle.grammar.proofs.Judging.{Held, Field, Judged, right, judged_here, judged_after, judged_as, Numbered, judged_number}
 
 -- The rest of a list: `seen` says whether an axis is named before.
@@ -22,11 +22,7 @@ Then ps seen (b ∷ w) = (eqb b 44 ≡ true) × Listed ps seen w
 
 -- A text's first byte tells whether its first field is empty, and a number is not.
 pub empty_first : (t bs : List ℕ) → Agree 1 t bs → empty t ≡ empty bs
-empty_first t bs a = first t ∙ ap empty a ∙ sym (first bs)
-  where
-    first : (t : List ℕ) → empty t ≡ empty (take 1 t)
-    first [] = refl
-    first (b ∷ t) = refl
+empty_first t bs a = agree_told empty (λ b bs. refl) t bs a
 
 signed_first : {s : List ℕ} (a k : List ℕ) → Sign s → empty (a ++ k) ≡ false → empty ((s ++ a) ++ k) ≡ false
 signed_first a k unsigned h = h
@@ -93,11 +89,10 @@ judged_after_field ps true at end [] e more = right refl
 judged_after_field ps false at end [] e more =
     let here : end ≡ at = omega arith in
     rw (any_none (length ps), here) (judged_here at [] (λ t l a. false≢true (subst (Then ps false) (agree_nil 0 t a) l)))
-judged_after_field ps seen at end (b ∷ bs) e more = by (eqb b 44) refl
-  where
-    by : (v : Bool) → eqb b 44 ≡ v → Judged (Then ps seen) at (b ∷ bs) (listing seen end (cond v (fields ps (at + 1) bs) (Err (Form at))))
-    by true y = judged_comma seen at end b bs e y ps more
-    by false n = judged_here at (b ∷ bs) (λ t l a. let c = agree_cons 0 b t bs a in both_ways (eqb b 44) n (subst (Then ps seen) c.1 l).0)
+judged_after_field ps seen at end (b ∷ bs) e more =
+    cond_both (eqb b 44) (fields ps (at + 1) bs) (Err (Form at)) (λ r. Judged (Then ps seen) at (b ∷ bs) (listing seen end r))
+    (λ y. judged_comma seen at end b bs e y ps more)
+    (λ n. judged_here at (b ∷ bs) (λ t l a. let c = agree_cons 0 b t bs a in both_ways (eqb b 44) n (subst (Then ps seen) c.1 l).0))
 
 -- the texts of a list whose first field is empty, and those that begin with a number
 module _ (p : Bool) (ps : List Bool) (seen : Bool) where
@@ -139,25 +134,19 @@ filled f = record { field = Some f; width = f.number.end }
 abbrev with_rest : List Bool → ℕ → List ℕ → Slot → Result reader.Fields Refusal
 with_rest ps at bs s = before s.field (after (fields ps) (length ps) (at + s.width) (drop s.width bs))
 
-abbrev by_slot : Bool → List Bool → Bool → ℕ → List ℕ → Result reader.Fields Refusal
-by_slot p ps none at bs =
-    let empty-slot : Slot = record { field = None; width = 0 } in
-    then (cond none (Ok empty-slot) (then (leading p at bs) (λ f. Ok (filled f)))) (with_rest ps at bs)
-
 pub judged_fields : Typed → (ps : List Bool) (seen : Bool) (at : ℕ) (bs : List ℕ) → 0 < length ps → Judged (Listed ps seen) at bs (listing seen (at + length bs) (fields ps at bs))
 unfolding fields
 judged_fields law [] seen at bs some = absurd (omega arith)
-judged_fields law (p ∷ ps) seen at bs some = by (empty bs) refl (λ seen at bs h. judged_fields law ps seen at bs h)
-  where
-    by : (none : Bool) → empty bs ≡ none → ((seen : Bool) (at : ℕ) (bs : List ℕ) → 0 < length ps → Judged (Listed ps seen) at bs (listing seen (at + length bs) (fields ps at bs))) → Judged (Listed (p ∷ ps) seen) at bs (listing seen (at + length bs) (by_slot p ps none at bs))
-    by true y more =
-        judged_as {L = Then ps seen} (empty_into p ps seen) (λ t l a. empty_out seen l.1 (empty_first t bs a ∙ y) l.2)
-        (rw (add-zero at) (before_none seen (at + length bs) _ (judged_after_field ps seen at (at + length bs) bs refl (more seen))))
-    by false n more =
-        subst (Judged (Listed (p ∷ ps) seen) at bs) (sym (regroup (leading p at bs) filled (with_rest ps at bs) (λ fs. cond (seen || any fs) (Ok fs) (Err (Form (at + length bs))))))
-        (judged_as {L = Numbered p (Then ps true)}
-        (λ w m. (true, rw m.2 (number_into p ps seen m.0 m.1 m.3 m.4), or_right seen true refl))
-        (λ t l a. number_out l.1 (empty_first t bs a ∙ n))
-        (judged_number law p (Then ps true) (then_stops ps) [] refl at bs _
-        (λ m inside.
-        before_some seen (at + length bs) _ _ (judged_after_field ps true (at + m.end) (at + length bs) (drop m.end bs) (omega (arith, length-drop m.end bs)) (more true)))))
+judged_fields law (p ∷ ps) seen at bs some =
+    cond_both (empty bs) (Ok (record { field = None; width = 0 })) (then (leading p at bs) (λ f. Ok (filled f))) (λ s. Judged (Listed (p ∷ ps) seen) at bs (listing seen (at + length bs) (then s (with_rest ps at bs))))
+    (λ y.
+    judged_as {L = Then ps seen} (empty_into p ps seen) (λ t l a. empty_out seen l.1 (empty_first t bs a ∙ y) l.2)
+    (rw (add-zero at) (before_none seen (at + length bs) _ (judged_after_field ps seen at (at + length bs) bs refl (λ at bs h. judged_fields law ps seen at bs h)))))
+    (λ n.
+    subst (Judged (Listed (p ∷ ps) seen) at bs) (sym (regroup (leading p at bs) filled (with_rest ps at bs) (λ fs. cond (seen || any fs) (Ok fs) (Err (Form (at + length bs))))))
+    (judged_as {L = Numbered p (Then ps true)}
+    (λ w m. (true, rw m.2 (number_into p ps seen m.0 m.1 m.3 m.4), or_right seen true refl))
+    (λ t l a. number_out l.1 (empty_first t bs a ∙ n))
+    (judged_number law p (Then ps true) (then_stops ps) [] refl at bs _
+    (λ m inside.
+    before_some seen (at + length bs) _ _ (judged_after_field ps true (at + m.end) (at + length bs) (drop m.end bs) (omega (arith, length-drop m.end bs)) (λ at bs h. judged_fields law ps true at bs h))))))

@@ -1,5 +1,5 @@
 -- The places of refusals on port M and in Set. Assumes nothing.
-use Rattle.std.proofs.Common.{◌≡◌, ℕ, true, false, List, [], ◌∷◌, map, length, is_some, Ok, Err, sym, refl, ap, subst, zero-add, arith}
+use Rattle.std.proofs.Common.{◌≡◌, ℕ, Bool, false, Option, List, [], ◌∷◌, map, is_some, Ok, refl, ap, subst, arith, rules}
 use Rattle.drive.specs.declared.axis.Axis.{Axis}
 use Rattle.drive.specs.Axes.{index, each}
 use Rattle.names.specs.Laws.{Apart, Lawful}
@@ -9,9 +9,10 @@ use Rattle.names.proofs.Lawful.{apart_is_lawful}
 use Rattle.text.specs.Typed.{Typed}
 use Rattle.command.specs.declared.request.Selection.{Selection}
 use Rattle.command.specs.declared.request.Selection.TheVariants.{One, All}
-use Rattle.command.specs.declared.request.Refusal.TheVariants.{Name as BadName}
-use Rattle.command.specs.Requests.{Tuning, Operands}
-use Rattle.command.specs.Operands.{units_of, pointed, listed}
+use Rattle.command.specs.declared.request.Settings.{Settings}
+use Rattle.command.specs.Requests.{Operands}
+use Rattle.command.specs.Operands.{units_of, pointed, amount, listed}
+use Rattle.text.specs.declared.number.Number.{Number}
 use Rattle.command.specs.Fields.{then}
 use Rattle.command.specs.Mount.{follows, taking, mount}
 use Rattle.command.specs.Mount as reader
@@ -22,11 +23,11 @@ use Rattle.grammar.specs.Forms.{Named, one_axis, all_axes, in_set}
 use Rattle.grammar.specs.Forms as form
 use Rattle.grammar.specs.Law.{Begun, RightMount, OnMount, InSet}
 use Rattle.grammar.proofs.Shapes.{Reads, never, reads_bare, reads_then, reads_amount, reads_listed, reads_kill}
-use Rattle.grammar.proofs.Rules.{Matched, Outcome, outcome, outcome_then, ruled_named, first_rule}
+use Rattle.grammar.proofs.Rules.{Matched, done, row, Outcome, outcome_of, outcome_then, ruled_named, first_rule}
 use Rattle.grammar.proofs.Meanings.{meaning, meant}
 
 -- no axis has a point where there are no settings
-no_points : (ts : List Tuning) → each (pointed []) ≡ map (λ _. false) (each (λ k. is_some (units_of ts k)))
+no_points : (ts : List Settings) → each (pointed []) ≡ map (λ _. false) (each (λ k. is_some (units_of ts k)))
 unfolding each
 no_points ts = constant _
   where
@@ -35,235 +36,38 @@ no_points ts = constant _
     constant (x ∷ xs) = ap (λ l. false ∷ l) (constant xs)
 
 module _ (law : Typed) where
-  reads_wholes : {B : Type 0} (ts : List Tuning) (f : Operands → B) → Reads (form.listed (map (λ _. false) (each (λ k. is_some (units_of ts k))))) (λ at bs. then (listed [] at bs) (λ os. Ok (f os)))
+  reads_wholes : {B : Type 0} (ts : List Settings) (f : Operands → B) → Reads (form.listed (map (λ _. false) (each (λ k. is_some (units_of ts k))))) (λ at bs. then (listed [] at bs) (λ os. Ok (f os)))
   reads_wholes ts f = subst (λ ps. Reads (form.listed ps) (λ at bs. then (listed [] at bs) (λ os. Ok (f os)))) (no_points ts) (reads_then f (reads_listed law []))
 
-  matched_one : (a : Axis) (ts : List Tuning) → Matched (λ n. taking ts (follows n (One a))) mount_names (one_axis (is_some (units_of ts (index a))))
-  unfolding mount_names
-  matched_one a ts = (
-    refl,
-    reads_bare _,
-    (
-      refl,
-      reads_bare _,
-      (
-        refl,
-        reads_bare _,
-        (
-          refl,
-          reads_bare _,
-          (
-            refl,
-            reads_bare _,
-            (
-              refl,
-              reads_bare _,
-              (
-                refl,
-                reads_bare _,
-                (
-                  refl,
-                  reads_bare _,
-                  (
-                    refl,
-                    reads_bare _,
-                    (
-                      refl,
-                      reads_then _ (reads_amount law _ _),
-                      (
-                        refl,
-                        reads_then _ (reads_amount law _ _),
-                        (
-                          refl,
-                          reads_bare _,
-                          (
-                            refl,
-                            reads_then _ (reads_amount law false _),
-                            (
-                              refl,
-                              reads_then _ (reads_amount law false _),
-                              (
-                                refl,
-                                reads_then _ (reads_amount law false _),
-                                (
-                                  refl,
-                                  reads_then _ (reads_amount law false _),
-                                  (
-                                    refl,
-                                    reads_bare _,
-                                    (
-                                      refl,
-                                      reads_bare _,
-                                      (
-                                        refl,
-                                        reads_bare _,
-                                        (refl, reads_bare _, (refl, reads_bare _, (refl, reads_bare _, tt))),
-                                      ),
-                                    ),
-                                  ),
-                                ),
-                              ),
-                            ),
-                          ),
-                        ),
-                      ),
-                    ),
-                  ),
-                ),
-              ),
-            ),
-          ),
-        ),
-      ),
-    ),
-  )
+  reads_made : {A B : Type 0} (p : Bool) (judge : Number → Option A) (f : A → B) → Reads (form.one p) (λ at bs. then (amount p judge at bs) (λ a. Ok (f a)))
+  reads_made p judge f = reads_then f (reads_amount law p judge)
 
-  matched_all : (ts : List Tuning) → Matched (λ n. taking ts (follows n All)) mount_names (all_axes (each (λ k. is_some (units_of ts k))))
+  matched_one : (a : Axis) (ts : List Settings) → Matched (λ n. taking ts (follows n (One a))) mount_names (one_axis (is_some (units_of ts (index a))))
   unfolding mount_names
-  matched_all ts = (
-    refl,
-    reads_bare _,
-    (
-      refl,
-      reads_bare _,
-      (
-        refl,
-        reads_bare _,
-        (
-          refl,
-          reads_bare _,
-          (
-            refl,
-            reads_bare _,
-            (
-              refl,
-              reads_bare _,
-              (
-                refl,
-                reads_bare _,
-                (
-                  refl,
-                  reads_bare _,
-                  (
-                    refl,
-                    reads_bare _,
-                    (
-                      refl,
-                      reads_then _ (reads_listed law ts),
-                      (
-                        refl,
-                        reads_then _ (reads_listed law ts),
-                        (
-                          refl,
-                          reads_wholes ts _,
-                          (
-                            refl,
-                            never refl (λ at bs. refl),
-                            (
-                              refl,
-                              never refl (λ at bs. refl),
-                              (
-                                refl,
-                                never refl (λ at bs. refl),
-                                (
-                                  refl,
-                                  never refl (λ at bs. refl),
-                                  (
-                                    refl,
-                                    reads_bare _,
-                                    (
-                                      refl,
-                                      reads_wholes ts _,
-                                      (
-                                        refl,
-                                        never refl (λ at bs. refl),
-                                        (refl, reads_bare _, (refl, reads_bare _, (refl, reads_bare _, tt))),
-                                      ),
-                                    ),
-                                  ),
-                                ),
-                              ),
-                            ),
-                          ),
-                        ),
-                      ),
-                    ),
-                  ),
-                ),
-              ),
-            ),
-          ),
-        ),
-      ),
-    ),
-  )
+  matched_one a ts = search (rules, done, row, reads_bare, reads_made) depth 60
+
+  matched_all : (ts : List Settings) → Matched (λ n. taking ts (follows n All)) mount_names (all_axes (each (λ k. is_some (units_of ts k))))
+  unfolding mount_names
+  matched_all ts = search (rules, done, row, reads_bare, reads_then, reads_listed law, reads_wholes, never) depth 60
 
   matched_set : Matched changing setting_names in_set
   unfolding setting_names
-  matched_set = (
-    refl,
-    reads_bare _,
-    (
-      refl,
-      reads_bare _,
-      (
-        refl,
-        reads_bare _,
-        (
-          refl,
-          reads_bare _,
-          (
-            refl,
-            reads_bare _,
-            (
-              refl,
-              reads_bare _,
-              (
-                refl,
-                reads_bare _,
-                (
-                  refl,
-                  reads_bare _,
-                  (
-                    refl,
-                    reads_then _ (reads_amount law true factor),
-                    (
-                      refl,
-                      reads_bare _,
-                      (refl, reads_kill law, tt),
-                    ),
-                  ),
-                ),
-              ),
-            ),
-          ),
-        ),
-      ),
-    ),
-  )
+  matched_set = search (rules, done, row, reads_bare, reads_made, reads_kill law) depth 60
 
   module _ (apart : Apart mount_names) where
     mount_lawful : Lawful mount_names
     unfolding mount_names
     mount_lawful = apart_is_lawful mount_names (omega arith) apart
 
-    on_mount : (s : Selection) (ts : List Tuning) (text : List ℕ) → Outcome (Named (one_axis false)) (RightMount s ts) 0 text (mount s ts text)
-    on_mount (One a) ts text =
-        outcome (λ n. taking ts (follows n (One a))) mount_names (one_axis (is_some (units_of ts (index a)))) (matched_one a ts) refl mount_lawful 0 text (reader.after_name (One a) ts text) (length text)
-        (sym (zero-add (length text)))
-        (λ y. refl)
-        (λ p. ap (λ k. Err (BadName k)) (sym (zero-add p)))
-    on_mount All ts text =
-        outcome (λ n. taking ts (follows n All)) mount_names (all_axes (each (λ k. is_some (units_of ts k)))) (matched_all ts) refl mount_lawful 0 text (reader.after_name All ts text) (length text)
-        (sym (zero-add (length text)))
-        (λ y. refl)
-        (λ p. ap (λ k. Err (BadName k)) (sym (zero-add p)))
+    on_mount : (s : Selection) (ts : List Settings) (text : List ℕ) → Outcome (Named (one_axis false)) (RightMount s ts) 0 text (mount s ts text)
+    on_mount (One a) ts text = outcome_of (matched_one a ts) refl mount_lawful text (reader.after_name (One a) ts text) (λ y. refl) (λ p. refl)
+    on_mount All ts text = outcome_of (matched_all ts) refl mount_lawful text (reader.after_name All ts text) (λ y. refl) (λ p. refl)
 
-    mount_some : (s : Selection) (ts : List Tuning) → Begun (RightMount s ts) []
+    mount_some : (s : Selection) (ts : List Settings) → Begun (RightMount s ts) []
     mount_some (One a) ts = first_rule form.nothing
     mount_some All ts = first_rule form.nothing
 
-    mount_named : (s : Selection) (ts : List Tuning) (t : List ℕ) → RightMount s ts t → Named (one_axis false) t
+    mount_named : (s : Selection) (ts : List Settings) (t : List ℕ) → RightMount s ts t → Named (one_axis false) t
     mount_named (One a) ts t r = ruled_named r
     mount_named All ts t r = ruled_named r
 
@@ -281,4 +85,4 @@ module _ (law : Typed) where
     set_law text =
         meant (fits text)
         (meaning (first_rule form.nothing) (λ t r. ruled_named r)
-        (outcome changing setting_names in_set matched_set refl set_lawful 0 text (sets.after_name text) (length text) (sym (zero-add (length text))) (λ y. refl) (λ p. ap (λ k. Err (BadName k)) (sym (zero-add p)))))
+        (outcome_of matched_set refl set_lawful text (sets.after_name text) (λ y. refl) (λ p. refl)))

@@ -1,9 +1,11 @@
 -- Texts by the name at their front. Assumes nothing.
-use Rattle.std.proofs.Common.{◌≡◌, ℕ, zero, suc, ◌+◌, ◌-◌, ◌<◌, ◌≤◌, Bool, true, ◌&&◌, eqb, leb, List, [], ◌∷◌, ◌++◌, map, length, take, drop, Ok, Err, Result, sym, refl, ap, ◌∙◌, subst, inl, inr, ⊎_elim, append_assoc, append-nil, zero-add, arith, length-append, length-drop, take-append-drop, take_at}
+use Rattle.std.proofs.Common.{◌≡◌, ℕ, zero, suc, ◌+◌, ◌-◌, ◌<◌, ◌≤◌, Bool, true, ◌&&◌, leb, List, [], ◌∷◌, ◌++◌, map, length, take, drop, Ok, Err, Result, sym, refl, ap, ◌∙◌, subst, inl, ⊎_elim, append_assoc, append-nil, zero-add, arith, length-append, length-drop, take-append-drop, take_at}
 use Rattle.std.proofs.lemmas.List.{append_cancel_left, length-map, length-take, length-take-le, map-append, take-append-le, take-map}
-use Rattle.std.proofs.lemmas.Bool.{and_cases, and_from, and_parts, both_ways, cases_lt, cond_both, eq-eqb, eqb-true, false≢true, leb-false, leb-true}
+use Rattle.std.proofs.lemmas.Bool.{and_parts, both_ways, cases_lt}
+use Rattle.std.proofs.lemmas.Bool.Decides.{nat_tests}
 use Rattle.names.specs.Tables.{Row, upper, begins, named}
 use Rattle.names.specs.Laws.{Stands, Lawful}
+use Rattle.names.proofs.Lawful.{same_row}
 use Rattle.command.specs.declared.request.Refusal.{Refusal}
 use Rattle.command.specs.declared.request.Refusal.TheVariants.{Name, Mode}
 use Rattle.command.specs.Fields.{then}
@@ -15,16 +17,10 @@ use Rattle.grammar.proofs.Shapes.{Reads, takes, never}
 
 -- A byte stands for its letter in upper case, and for no other byte that is not a letter in lower case.
 upper_same : (b : ℕ) → Same (upper b) b
-upper_same b =
-    cond_both (leb 97 b && leb b 122) (b - 32) b (λ n. Same n b)
-    (λ h. let p = and_parts (leb 97 b) (leb b 122) h in let low = leb-true 97 b p.0 in let high = leb-true b 122 p.1 in inr (omega arith, omega arith, omega arith))
-    (λ _. inl refl)
+upper_same b = grind (arith, nat_tests)
 
 same_upper : (n b : ℕ) → n ≤ 96 → Same n b → upper b ≡ n
-same_upper n b h s =
-    cond_both (leb 97 b && leb b 122) (b - 32) b (λ x. x ≡ n)
-    (λ t. let low = leb-true 97 b (and_parts (leb 97 b) (leb b 122) t).0 in ⊎_elim (λ e. absurd (omega arith)) (λ l. omega (arith, l.2)) s)
-    (λ f. ⊎_elim (λ e. e) (λ l. ⊎_elim (λ x. absurd (omega (arith, leb-false 97 b x, l.0, l.2))) (λ x. absurd (omega (arith, leb-false b 122 x, l.1, l.2))) (and_cases (leb 97 b) (leb b 122) f)) s)
+same_upper n b h s = grind (arith, nat_tests)
 
 -- no letter in lower case
 abbrev plain : List ℕ → Bool
@@ -39,8 +35,7 @@ spelled_upper : (ns w : List ℕ) → plain ns ≡ true → Spelled ns w → map
 spelled_upper [] [] h s = refl
 spelled_upper [] (b ∷ w) h s = absurd s
 spelled_upper (n ∷ ns) [] h s = absurd s
-spelled_upper (n ∷ ns) (b ∷ w) h s =
-    let p = and_parts (leb n 96) (plain ns) h in λ i. same_upper n b (leb-true n 96 p.0) s.0 i ∷ spelled_upper ns w p.1 s.1 i
+spelled_upper (n ∷ ns) (b ∷ w) h s = let first = same_upper n b in let k = spelled_upper ns w in grind (arith, nat_tests)
 
 -- the bytes w, and then those of x as they are
 upper_spelled : (w x : List ℕ) → Spelled (map upper w ++ x) (w ++ x)
@@ -50,16 +45,17 @@ upper_spelled (b ∷ w) x = (upper_same b, upper_spelled w x)
 
 begins_front : (ns bs : List ℕ) → begins ns bs ≡ true → bs ≡ ns ++ drop (length ns) bs
 begins_front [] bs h = refl
-begins_front (n ∷ ns) [] h = absurd (false≢true h)
-begins_front (n ∷ ns) (b ∷ bs) h = let p = and_parts (eqb b n) (begins ns bs) h in λ i. eqb-true b n p.0 i ∷ begins_front ns bs p.1 i
+begins_front (n ∷ ns) [] h = grind arith
+begins_front (n ∷ ns) (b ∷ bs) h = let k = begins_front ns bs in grind (arith, nat_tests)
 
 front_begins : (ns v : List ℕ) → begins ns (ns ++ v) ≡ true
 front_begins [] v = refl
-front_begins (n ∷ ns) v = and_from (eqb n n) (begins ns (ns ++ v)) (eq-eqb n n refl) (front_begins ns v)
+front_begins (n ∷ ns) v = let k = front_begins ns v in grind (arith, nat_tests)
 
 take_begins : (ns bs : List ℕ) → take (length ns) bs ≡ ns → begins ns bs ≡ true
-take_begins ns bs e =
-    let k = length ns in subst (λ l. begins ns l ≡ true) (ap (λ l. l ++ drop k bs) (sym e) ∙ take-append-drop k bs) (front_begins ns (drop k bs))
+take_begins [] bs e = refl
+take_begins (n ∷ ns) [] e = grind arith
+take_begins (n ∷ ns) (b ∷ bs) e = let h = take_begins ns bs (cc) in grind (arith, nat_tests)
 
 -- The rule that a text follows.
 record Following (rs : List Rule) (t : List ℕ) : Type 0 where
@@ -79,15 +75,13 @@ following h (there r rs t x) =
     let f = following (and_parts (plain r.1) (all_plain rs) h).1 x in
     record { place = suc f.place; rule = f.rule; stands = f.stands; word = f.word; rest = f.rest; is = f.is; name = f.name; shaped = f.shaped }
 
+following_upper : {rs : List Rule} {t : List ℕ} (f : Following rs t) → map upper t ≡ f.rule.1 ++ map upper f.rest
+following_upper f = ap (map upper) f.is ∙ map-append upper f.word f.rest ∙ ap (λ l. l ++ map upper f.rest) f.name
+
 follows_rule : (rs : List Rule) (i : ℕ) (s : Shape) (n : List ℕ) → Stands rs i (s, n) → (w v : List ℕ) → Spelled n w → Shaped s v → Ruled rs (w ++ v)
 follows_rule [] i s n st w v sp sh = absurd st
 follows_rule (r ∷ rs) zero s n st w v sp sh = subst (λ q. Ruled (q ∷ rs) (w ++ v)) (sym st) (here s n rs w v sp sh)
 follows_rule (r ∷ rs) (suc i) s n st w v sp sh = there r rs (w ++ v) (follows_rule rs i s n st w v sp sh)
-
-one_rule : (rs : List Rule) (i : ℕ) (r s : Rule) → Stands rs i r → Stands rs i s → r ≡ s
-one_rule [] i r s hr hs = absurd hr
-one_rule (q ∷ rs) zero r s hr hs = sym hr ∙ hs
-one_rule (q ∷ rs) (suc i) r s hr hs = one_rule rs i r s hr hs
 
 -- a text of the first rule, with its name as it is written
 pub first_rule : {s : Shape} {n : List ℕ} {rs : List Rule} {v : List ℕ} → Shaped s v → (t : List ℕ) × Ruled ((s, n) ∷ rs) t
@@ -117,26 +111,20 @@ from_any (q ∷ rs) zero r st = (q.0, λ i. (q.0, (st i).1))
 from_any (q ∷ rs) (suc i) r st = from_any rs i r st
 
 -- Names and rules, row by row: the same bytes, and what follows the name is read as its rule says.
-abbrev pub Matched : {N A : Type 0} → (N → ℕ → List ℕ → Result A Refusal) → List (Row N) → List Rule → Type 0
-Matched operand [] [] = Unit {0}
-Matched operand [] (r ∷ rs) = ⊥
-Matched operand (x ∷ xs) [] = ⊥
-Matched operand (x ∷ xs) (r ∷ rs) = (x.1 ≡ r.1) × Reads r.0 (operand x.0) × Matched operand xs rs
+pub data Matched {N A : Type 0} (operand : N → ℕ → List ℕ → Result A Refusal) : List (Row N) → List Rule → Type 0 where
+  done : Matched operand [] []
+  row : {x : N} {n : List ℕ} {s : Shape} {xs : List (Row N)} {rs : List Rule} → Reads s (operand x) → Matched operand xs rs → Matched operand ((x, n) ∷ xs) ((s, n) ∷ rs)
 
-module _ {N A : Type 0} (operand : N → ℕ → List ℕ → Result A Refusal) where
-  rule_of : (xs : List (Row N)) (rs : List Rule) → Matched operand xs rs → (i : ℕ) (x : Row N) → Stands xs i x → (s : Shape) × Stands rs i (s, x.1) × Reads s (operand x.0)
-  rule_of [] [] m i x st = absurd st
-  rule_of [] (r ∷ rs) m i x st = absurd m
-  rule_of (y ∷ xs) [] m i x st = absurd m
-  rule_of (y ∷ xs) (r ∷ rs) m zero x st = subst (λ (x : Row N). (s : Shape) × Stands (r ∷ rs) 0 (s, x.1) × Reads s (operand x.0)) st (r.0, (λ i. (r.0, sym m.0 i)), m.1)
-  rule_of (y ∷ xs) (r ∷ rs) m (suc i) x st = rule_of xs rs m.2 i x st
+module _ {N A : Type 0} {operand : N → ℕ → List ℕ → Result A Refusal} where
+  rule_of : {xs : List (Row N)} {rs : List Rule} → Matched operand xs rs → (i : ℕ) (x : Row N) → Stands xs i x → (s : Shape) × Stands rs i (s, x.1) × Reads s (operand x.0)
+  rule_of done i x st = absurd st
+  rule_of (row {s = s} r m) zero x st = (s, λ i. (s, (st i).1), subst (λ (y : Row N). Reads s (operand y.0)) st r)
+  rule_of (row r m) (suc i) x st = rule_of m i x st
 
-  name_of : (xs : List (Row N)) (rs : List Rule) → Matched operand xs rs → (i : ℕ) (s : Shape) (n : List ℕ) → Stands rs i (s, n) → (x : N) × Stands xs i (x, n)
-  name_of [] [] m i s n st = absurd st
-  name_of [] (r ∷ rs) m i s n st = absurd m
-  name_of (y ∷ xs) [] m i s n st = absurd m
-  name_of (y ∷ xs) (r ∷ rs) m zero s n st = (y.0, λ i. (y.0, (m.0 ∙ ap (λ r. r.1) st) i))
-  name_of (y ∷ xs) (r ∷ rs) m (suc i) s n st = name_of xs rs m.2 i s n st
+  name_of : {xs : List (Row N)} {rs : List Rule} → Matched operand xs rs → (i : ℕ) (r : Rule) → Stands rs i r → (x : N) × Stands xs i (x, r.1)
+  name_of done i r st = absurd st
+  name_of (row {x = x} q m) zero r st = (x, λ i. (x, (st i).1))
+  name_of (row q m) (suc i) r st = name_of m i r st
 
 -- What is given of a text at place `at`, whose forms are `right`, and `named` with any text after the name.
 pub data Outcome {A : Type 0} (named right : List ℕ → Type 0) (at : ℕ) (text : List ℕ) : Result A Refusal → Type 0 where
@@ -147,7 +135,7 @@ pub data Outcome {A : Type 0} (named right : List ℕ → Type 0) (at : ℕ) (te
 no_shape : {v : List ℕ} → Shaped invalid v → ⊥
 no_shape s = elim s [ ]
 
-module _ {N A : Type 0} (operand : N → ℕ → List ℕ → Result A Refusal) (xs : List (Row N)) (rs : List Rule) (m : Matched operand xs rs) (plains : all_plain rs ≡ true) (law : Lawful xs) (at : ℕ) (text : List ℕ) where
+module _ {N A : Type 0} {operand : N → ℕ → List ℕ → Result A Refusal} {xs : List (Row N)} {rs : List Rule} (m : Matched operand xs rs) (plains : all_plain rs ≡ true) (law : Lawful xs) (at : ℕ) (text : List ℕ) where
   -- a name at the front of the text
   module _ (i : ℕ) (x : N) (n : List ℕ) (st : Stands xs i (x, n)) (b : begins n (map upper text) ≡ true) where
     word : List ℕ
@@ -170,12 +158,11 @@ module _ {N A : Type 0} (operand : N → ℕ → List ℕ → Result A Refusal) 
       unfolding word
       only_rule t r a =
           let f = following plains r in
-          let y = name_of operand xs rs m f.place f.rule.0 f.rule.1 f.stands in
+          let y = name_of m f.place f.rule f.stands in
           let front : take (length n) (map upper t) ≡ n = take-map upper (length n) t ∙ ap (map upper) a ∙ word_upper in
-          let uppers : map upper t ≡ f.rule.1 ++ map upper f.rest = ap (map upper) f.is ∙ map-append upper f.word f.rest ∙ ap (λ l. l ++ map upper f.rest) f.name in
-          let other : begins f.rule.1 (map upper t) ≡ true = subst (λ l. begins f.rule.1 l ≡ true) (sym uppers) (front_begins f.rule.1 (map upper f.rest)) in
+          let other : begins f.rule.1 (map upper t) ≡ true = subst (λ l. begins f.rule.1 l ≡ true) (sym (following_upper f)) (front_begins f.rule.1 (map upper f.rest)) in
           let place : f.place ≡ i = law.one (map upper t) f.place i (y.0, f.rule.1) (x, n) y.1 st other (take_begins n (map upper t) front) in
-          let same : f.rule ≡ (s, n) = one_rule rs i f.rule (s, n) (subst (λ k. Stands rs k f.rule) place f.stands) rule in
+          let same : f.rule ≡ (s, n) = same_row rs i f.rule (s, n) (subst (λ k. Stands rs k f.rule) place f.stands) rule in
           let long : length f.word ≡ length n = sym (length-map f.word upper) ∙ ap length (f.name ∙ ap (λ (r : Rule). r.1) same) in
           let is : f.word ≡ word = sym (take_at f.word f.rest (length n) long) ∙ ap (take (length n)) (sym f.is) ∙ a in
           (f.rest, f.is ∙ ap (λ l. l ++ f.rest) is, subst (λ (r : Rule). Shaped r.0 f.rest) same f.shaped)
@@ -203,7 +190,7 @@ module _ {N A : Type 0} (operand : N → ℕ → List ℕ → Result A Refusal) 
           (not_valid has_name (λ r. let o = only_rule text r refl in no_shape (subst (λ s. Shaped s o.0) e o.2)))
 
     found : Outcome (Named rs) (Ruled rs) at text (operand x (at + length n) (drop (length n) text))
-    found = let r = rule_of operand xs rs m i (x, n) st in by_rule r.0 r.1 r.2
+    found = let r = rule_of m i (x, n) st in by_rule r.0 r.1 r.2
 
   -- no name: where the text ceases to go along with one
   lost : (p : ℕ) → named xs text ≡ Err p → Misfit (Named rs) text p
@@ -216,7 +203,7 @@ module _ {N A : Type 0} (operand : N → ℕ → List ℕ → Result A Refusal) 
             λ _.
             let g = h.1.1 in
             let n = g.1.1 in
-            let r = rule_of operand xs rs m g.0 g.1 g.2 in
+            let r = rule_of m g.0 g.1 g.2 in
             let rest = drop (length (take p (map upper text))) n in
             let is : map upper (take p text) ++ rest ≡ n = ap (λ l. l ++ rest) (sym (take-map upper p text)) ∙ sym (begins_front (take p (map upper text)) n g.3) in
             let spelt : Spelled n (take p text ++ rest) = subst (λ z. Spelled z (take p text ++ rest)) is (upper_spelled (take p text) rest) in (
@@ -229,9 +216,8 @@ module _ {N A : Type 0} (operand : N → ℕ → List ℕ → Result A Refusal) 
             let f = following (any_plain rs ∙ plains) nm in
             let n = f.rule.1 in
             let s = from_any rs f.place f.rule f.stands in
-            let y = name_of operand xs rs m f.place s.0 n s.1 in
-            let uppers : map upper t ≡ n ++ map upper f.rest = ap (map upper) f.is ∙ map-append upper f.word f.rest ∙ ap (λ l. l ++ map upper f.rest) f.name in
-            let same : Agree (suc p) (map upper text) (n ++ map upper f.rest) = take-map upper (suc p) text ∙ ap (map upper) (sym a) ∙ sym (take-map upper (suc p) t) ∙ ap (take (suc p)) uppers in
+            let y = name_of m f.place (s.0, n) s.1 in
+            let same : Agree (suc p) (map upper text) (n ++ map upper f.rest) = take-map upper (suc p) text ∙ ap (map upper) (sym a) ∙ sym (take-map upper (suc p) t) ∙ ap (take (suc p)) (following_upper f) in
             ⊎_elim
             (λ (l : p < length n).
             let front : take (suc p) (map upper text) ≡ take (suc p) n = same ∙ take-append-le (suc p) n (map upper f.rest) l in
@@ -256,6 +242,11 @@ module _ {N A : Type 0} (operand : N → ℕ → List ℕ → Result A Refusal) 
           let reads : reader (Ok y) ≡ operand f.1.0 (at + length n) (drop (length n) text) = ok y ∙ ap (λ (z : N × List ℕ). operand z.0 (whole - length z.1) z.1) f.4 ∙ ap (λ k. operand f.1.0 k (drop (length n) text)) place in
           subst (Outcome (Named rs) (Ruled rs) at text) (sym reads) (found f.0 f.1.0 n f.2 f.3)
       by (Err p) is = subst (Outcome (Named rs) (Ruled rs) at text) (sym (err p)) (nameless p refl (lost p is))
+
+-- the same of a whole text
+pub outcome_of : {N A : Type 0} {operand : N → ℕ → List ℕ → Result A Refusal} {xs : List (Row N)} {rs : List Rule} → Matched operand xs rs → all_plain rs ≡ true → Lawful xs → (text : List ℕ) (reader : Result (N × List ℕ) ℕ → Result A Refusal) → ((y : N × List ℕ) → reader (Ok y) ≡ operand y.0 (length text - length y.1) y.1) → ((p : ℕ) → reader (Err p) ≡ Err (Name p)) → Outcome (Named rs) (Ruled rs) 0 text (reader (named xs text))
+outcome_of m plains law text reader ok err =
+    outcome m plains law 0 text reader (length text) (sym (zero-add (length text))) ok (λ p. err p ∙ ap (λ k. Err (Name k)) (sym (zero-add p)))
 
 -- what is made of the value does not matter
 pub outcome_then : {A B : Type 0} {named right : List ℕ → Type 0} {at : ℕ} {text : List ℕ} {r : Result A Refusal} (f : A → B) → Outcome named right at text r → Outcome named right at text (then r (λ a. Ok (f a)))

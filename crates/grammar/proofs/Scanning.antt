@@ -2,12 +2,13 @@
 use Rattle.std.proofs.Common.{◌≡◌, ℕ, suc, ◌+◌, ◌<◌, ◌≤◌, Bool, true, ◌&&◌, ◌||◌, eqb, ltb, leb, List, [], ◌∷◌, ◌++◌, length, take, drop, Some, None, Ok, Err, Option, Result, sym, refl, ap, ◌∙◌, subst, ⊎_elim, append_assoc, append-nil, arith, length-drop, take-add}
 use Rattle.std.proofs.ByRecursion.{All-push}
 use Rattle.std.proofs.lemmas.List.{length_push}
-use Rattle.std.proofs.lemmas.Bool.{and_parts, cases_eq, cond_both, eqb-false, eqb-true, leb-false, leb-true, ltb-true, or_cases}
+use Rattle.std.proofs.lemmas.Bool.{and_parts, cases_eq, cond_both, eqb-false, eqb-true, leb-false, ltb-true, or_cases}
+use Rattle.std.proofs.lemmas.Bool.Decides.{nat_tests}
 use Rattle.text.specs.declared.number.Number as read
 use Rattle.text.specs.Numbers.{digit, signs, negative, start, longer, pointed, step, scanned, finished, reads}
 use Rattle.grammar.specs.Forms.{Digit, Digits, Sign, unsigned, plus, minus, Number}
 use Rattle.grammar.specs.Forms as form
-use Rattle.grammar.proofs.Fronts.{Agree, agree_less, agree_cons, agree_nil, agree_drop}
+use Rattle.grammar.proofs.Fronts.{Agree, agree_less, agree_cons, agree_nil, agree_told, agree_drop}
 
 abbrev Domain : {A B : Type 0} → (A → B) → Type 0
 Domain {A} f = A
@@ -22,13 +23,17 @@ data Taken (p : Bool) (s : Scan) (b : ℕ) : Option Scan → Type 0 where
   a_digit : Digit b → s.digits < 10 → Taken p s b (Some (longer s b))
   a_point : p ≡ true → s.whole ≡ 0 → 0 < s.digits → s.digits < 10 → b ≡ 46 → Taken p s b (Some (pointed s))
 
+-- the test of a digit
+pub is_digit : (b : ℕ) → digit b ≡ true → Digit b
+is_digit b h = grind (arith, nat_tests)
+
 taken : (p : Bool) (s : Scan) (b : ℕ) → Taken p s b (step p s b)
 taken p s b =
     cond_both (leb 10 s.digits) _ _ (Taken p s b) (λ _. ends)
     (λ room.
     let few : s.digits < 10 = leb-false 10 s.digits room in
     cond_both (digit b) _ _ (Taken p s b)
-    (λ d. let h = and_parts (leb 48 b) (leb b 57) d in a_digit (leb-true 48 b h.0, leb-true b 57 h.1) few)
+    (λ d. a_digit (is_digit b d) few)
     (λ _.
     cond_both (eqb b 46 && (p && (eqb s.whole 0 && ltb 0 s.digits))) _ _ (Taken p s b)
     (λ h.
@@ -124,16 +129,7 @@ sign_front (b ∷ bs) =
 
 signs_within : (bs : List ℕ) → signs bs ≤ length bs
 signs_within [] = omega arith
-signs_within (b ∷ bs) = cond_both (eqb b 43 || eqb b 45) 1 0 (λ k. k ≤ suc (length bs)) (λ _. omega arith) (λ _. omega arith)
-
--- the sign is told by the first byte
-signs_first : (bs : List ℕ) → signs bs ≡ signs (take 1 bs)
-signs_first [] = refl
-signs_first (b ∷ bs) = refl
-
-negative_first : (bs : List ℕ) → negative bs ≡ negative (take 1 bs)
-negative_first [] = refl
-negative_first (b ∷ bs) = refl
+signs_within (b ∷ bs) = grind (arith, nat_tests)
 
 -- What is read is the number that ends at `at`, or no number that goes on up to there.
 abbrev pub Ended : Bool → List ℕ → ℕ → Result read.Number ℕ → Type 0
@@ -167,9 +163,9 @@ stopped p bs =
       local =
           λ t a.
           let first : Agree 1 t bs = agree_less 1 (suc (k + m.count)) t bs (omega arith) a in
-          let same : signs t ≡ k = signs_first t ∙ ap signs first ∙ sym (signs_first bs) in
+          let same : signs t ≡ k = agree_told signs (λ b bs. refl) t bs first in
           let more : suc (k + m.count) ≡ k + suc m.count = omega arith in
           let there : scanned p (start k) (drop k t) ≡ m.stop = m.local (drop k t) (agree_drop k (suc m.count) t bs (subst (λ n. Agree n t bs) more a)) in
-          (λ i. finished ((negative_first t ∙ ap negative first ∙ sym (negative_first bs)) i) (scanned p (start (same i)) (drop (same i) t)))
+          (λ i. finished (agree_told negative (λ b bs. refl) t bs first i) (scanned p (start (same i)) (drop (same i) t)))
           ∙ ap (finished (negative bs)) (there ∙ sym (m.local rest refl));
     }

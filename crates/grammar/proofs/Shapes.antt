@@ -1,6 +1,7 @@
 -- What may follow a name, shape by shape. Assumes nothing.
-use Rattle.std.proofs.Common.{◌≡◌, ℕ, ◌+◌, ◌<◌, Bool, true, false, cond, ◌||◌, eqb, ◌⊎◌, List, [], ◌∷◌, ◌++◌, length, drop, pos, negsuc, Some, None, Ok, Err, Option, Result, sym, refl, ap, ◌∙◌, subst, inl, inr, ⊎_elim, arith}
-use Rattle.std.proofs.lemmas.Bool.{both_ways, eq-eqb, eqb-true, or_cases, or_left, or_right}
+use Rattle.std.proofs.Common.{◌≡◌, ℕ, ◌+◌, ◌<◌, Bool, true, false, ◌||◌, eqb, ◌⊎◌, List, [], ◌∷◌, ◌++◌, length, drop, pos, negsuc, Some, None, Ok, Err, Option, Result, sym, refl, ap, ◌∙◌, subst, inl, inr, ⊎_elim, arith}
+use Rattle.std.proofs.lemmas.Bool.{both_ways, cond_both, eqb-true}
+use Rattle.std.proofs.lemmas.Bool.Decides.{nat_tests}
 use Rattle.drive.specs.declared.axis.Axis.{Axis}
 use Rattle.drive.specs.Axes.{axes, each, length-each}
 use Rattle.queue.specs.declared.entry.Code.{Code}
@@ -8,7 +9,7 @@ use Rattle.text.specs.declared.number.Number as read
 use Rattle.text.specs.Typed.{Stops, Typed}
 use Rattle.command.specs.declared.request.Refusal.{Refusal}
 use Rattle.command.specs.declared.request.Refusal.TheVariants.{Mode}
-use Rattle.command.specs.Requests.{Tuning}
+use Rattle.command.specs.declared.request.Settings.{Settings}
 use Rattle.command.specs.Fields.{then, only, empty, single}
 use Rattle.command.specs.Fields as reader
 use Rattle.command.specs.Operands.{pointed, amount, ranged, kept, operands}
@@ -33,7 +34,7 @@ one_out : {p : Bool} {t : List ℕ} → Shaped (one p) t → Number p t
 one_out (form.number p v n) = n
 
 optional_out : {t : List ℕ} (b : ℕ) (bs : List ℕ) → Shaped optional t → Agree 1 t (b ∷ bs) → Number false t
-optional_out b bs form.absent a = let z : ◌≡◌ {A = ℕ} 0 1 = cc in absurd (omega arith)
+optional_out b bs form.absent a = absurd (cc)
 optional_out b bs (form.present v n) a = n
 
 listed_out : {ps : List Bool} {t : List ℕ} → Shaped (listed ps) t → Listed ps false t
@@ -50,11 +51,11 @@ letter b = eqb b 67 || eqb b 99
 
 same_letter : {c : ℕ} → Same 67 c → letter c ≡ true
 unfolding letter
-same_letter {c} s = ⊎_elim (λ e. or_left (eqb c 67) (eqb c 99) (eq-eqb c 67 e)) (λ h. or_right (eqb c 67) (eqb c 99) (eq-eqb c 99 h.2)) s
+same_letter s = grind (arith, nat_tests)
 
 letter_same : (c : ℕ) → letter c ≡ true → Same 67 c
 unfolding letter
-letter_same c h = ⊎_elim (λ e. inl (eqb-true c 67 e)) (λ e. inr (omega arith, omega arith, eqb-true c 99 e)) (or_cases (eqb c 67) (eqb c 99) h)
+letter_same c h = grind (arith, nat_tests)
 
 -- the two forms of what follows IOK
 abbrev Cleared : List ℕ → Type 0
@@ -96,7 +97,7 @@ ranged_input : (f g : Field) → Ranged (judged f g)
 ranged_input f g =
     ranged_then _ (ranged_kept f.at (ranged (pos 0) (pos 15) f.number)) (λ b. ranged_then _ (ranged_kept g.at (ranged (pos 0) (pos 1) g.number)) (λ l. value))
 
-pub ranged_operands : (ts : List Tuning) (k : ℕ) (fs : reader.Fields) → Ranged (operands ts k fs)
+pub ranged_operands : (ts : List Settings) (k : ℕ) (fs : reader.Fields) → Ranged (operands ts k fs)
 ranged_operands ts k [] = value
 ranged_operands ts k (None ∷ fs) = ranged_then _ (ranged_operands ts (k + 1) fs) (λ os. value)
 ranged_operands ts k (Some f ∷ fs) =
@@ -129,7 +130,7 @@ module _ (law : Typed) where
           judged_as {L = Number false} (λ w n. form.present w n) (λ t s g. optional_out b bs s g)
           (judged_then _ (judged_amount false (ranged (negsuc 999999999) (pos 1000000000)) at (b ∷ bs)) (λ z. value))
 
-  pub reads_listed : (ts : List Tuning) → Reads (listed (each (pointed ts))) (reader-listed ts)
+  pub reads_listed : (ts : List Settings) → Reads (listed (each (pointed ts))) (reader-listed ts)
   unfolding axes
   reads_listed ts =
       let ps = each (pointed ts) in
@@ -152,18 +153,17 @@ module _ (law : Typed) where
   judged_killing : (at : ℕ) (bs : List ℕ) → Judged (Shaped kill) at bs (killing at bs)
   unfolding comma
   judged_killing at [] = judged_here at [] (λ t s a. kill_some s (agree_nil 0 t a))
-  judged_killing at (b ∷ bs) = by (eqb b 44) refl
-    where
-      by : (v : Bool) → eqb b 44 ≡ v → Judged (Shaped kill) at (b ∷ bs) (cond v (removing (at + 1) bs) (contact at (b ∷ bs)))
-      by true y =
-          judged_as {L = Cleared} cleared_into
-          (λ t s a. ⊎_elim (λ c. c) (λ m. absurd (both_ways (empty t) (ap empty m.2 ∙ number_first m.1 m.3) (empty_first t (b ∷ bs) a ∙ y))) (kill_forms s))
-          (rw y at (judged_byte comma (Byte letter End) at (67 ∷ []) (same_letter (inl refl), refl) b bs (removing (at + 1) bs) (judged_removing (at + 1) bs)))
-      by false n =
-          judged_as {L = Numbered false Level} (λ w m. rw m.2 (input_into m.0 m.1 m.3 m.4))
-          (λ t s a. ⊎_elim (λ c. absurd (both_ways (empty t) (empty_first t (b ∷ bs) a ∙ n) (cleared_first t c))) (λ m. m) (kill_forms s))
-          (judged_number law false Level level_stops (44 ∷ 48 ∷ []) (refl, zero_number false) at (b ∷ bs) _
-          (λ m _. judged_then (judged (record { at = at; number = m })) (judged_level (at + m.end) (drop m.end (b ∷ bs))) (ranged_input (record { at = at; number = m }))))
+  judged_killing at (b ∷ bs) =
+      cond_both (eqb b 44) (removing (at + 1) bs) (contact at (b ∷ bs)) (Judged (Shaped kill) at (b ∷ bs))
+      (λ y.
+      judged_as {L = Cleared} cleared_into
+      (λ t s a. ⊎_elim (λ c. c) (λ m. absurd (both_ways (empty t) (ap empty m.2 ∙ number_first m.1 m.3) (empty_first t (b ∷ bs) a ∙ y))) (kill_forms s))
+      (rw y at (judged_byte comma (Byte letter End) at (67 ∷ []) (same_letter (inl refl), refl) b bs (removing (at + 1) bs) (judged_removing (at + 1) bs))))
+      (λ n.
+      judged_as {L = Numbered false Level} (λ w m. rw m.2 (input_into m.0 m.1 m.3 m.4))
+      (λ t s a. ⊎_elim (λ c. absurd (both_ways (empty t) (empty_first t (b ∷ bs) a ∙ n) (cleared_first t c))) (λ m. m) (kill_forms s))
+      (judged_number law false Level level_stops (44 ∷ 48 ∷ []) (refl, zero_number false) at (b ∷ bs) _
+      (λ m _. judged_then (judged (record { at = at; number = m })) (judged_level (at + m.end) (drop m.end (b ∷ bs))) (ranged_input (record { at = at; number = m })))))
 
   pub reads_kill : Reads kill killing
   reads_kill = takes (44 ∷ 67 ∷ []) (form.no_inputs 67 (inl refl)) judged_killing

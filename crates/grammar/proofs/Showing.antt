@@ -9,31 +9,28 @@ use Rattle.names.specs.Setting.{setting_names}
 use Rattle.text.specs.Numbers.{reads}
 use Rattle.command.specs.declared.request.Selection.TheVariants.{One, All}
 use Rattle.command.specs.declared.request.Refusal.{Refusal}
-use Rattle.command.specs.declared.request.Refusal.TheVariants.{Length, Name, Mode, Form, Range}
-use Rattle.command.specs.Requests.{Tuning}
+use Rattle.command.specs.declared.request.Refusal.TheVariants.{Form}
+use Rattle.command.specs.declared.request.Settings.{Settings}
 use Rattle.command.specs.Fields.{fields}
 use Rattle.command.specs.Reading.{read, read_setting}
 use Rattle.grammar.specs.Forms.{Addressed, addressed}
-use Rattle.grammar.specs.Law.{ThePlace, Meant, Undigited, OnMount, OnBench, InSet}
+use Rattle.grammar.specs.Law.{ThePlace, Meaning, Meant, Undigited, OnMount, OnBench, InSet}
 use Rattle.grammar.specs.Examples.{Examples}
 
-abbrev InLength : {A : Type 0} → Result A Refusal → Type 0
-InLength (Ok a) = Unit {0}
-InLength (Err Length) = ⊥
-InLength (Err (Name p)) = Unit {0}
-InLength (Err Mode) = Unit {0}
-InLength (Err (Form p)) = Unit {0}
-InLength (Err (Range p)) = Unit {0}
+infixr 20 ◌&◌
+-- the proof of a fact, and those of the facts after it
+◌&◌ : {A B : Type 0} → A → B → A × B
+a & b = (a, b)
 
 module _ {A : Type 0} {named right : List ℕ → Type 0} {text : List ℕ} {r : Result A Refusal} where
   is_right : (a : A) → r ≡ Ok a → Meant named right text r → right text
-  is_right a e m = (subst (Meant named right text) e m (λ z. subst InLength z tt)).takes_right (λ x. x)
+  is_right a e m = (subst (Meaning named right text) e (m (λ z. cc))).takes_right (λ x. x)
 
   is_wrong : (p : ℕ) → r ≡ Err (Form p) → Meant named right text r → (right text → ⊥) × ThePlace right text p
-  is_wrong p e m = let w = subst (Meant named right text) e m (λ z. subst InLength z tt) in (w.refuses_wrong tt, w.told.1)
+  is_wrong p e m = let w = subst (Meaning named right text) e (m (λ z. cc)) in (w.refuses_wrong tt, w.told.1)
 
 -- units on, of one axis
-on : List Tuning
+on : List Settings
 on = record { units = Some (record { value = pos 1; places = 0 }) } ∷ []
 
 eight : Addressed Undigited (codes "08TP")
@@ -46,37 +43,17 @@ three = addressed (51 ∷ []) (83 ∷ 84 ∷ 49 ∷ []) ((omega arith, omega ari
 
 pub shown : OnMount → OnBench → InSet → Examples
 unfolding on read read_setting reads fields named mount_names bench_names setting_names each axes
-shown mount bench set = (
-  is_right _ refl (mount (One X) X [] (codes "MR5")),
-  (
-    is_wrong 3 refl (mount (One X) X [] (codes "MR1.5")),
-    (
-      is_right _ refl (mount (One X) X on (codes "mr1.5")),
-      (
-        is_wrong 3 refl (mount (One X) X on (codes "MR+")),
-        (
-          is_right _ refl (mount (One X) X [] (codes "GO")),
-          (
-            is_wrong 2 refl (mount All X [] (codes "GO")),
-            (
-              is_right _ refl (mount All X [] (codes "MR,100")),
-              (
-                is_wrong 9 refl (mount All X [] (codes "MR,,,,,,,,")),
-                (
-                  is_right _ refl (bench All X [] (codes "08TP") eight),
-                  (
-                    is_wrong 3 refl (bench All X [] (codes "3ST1") three),
-                    (
-                      is_right _ refl (set (codes "iok,c")),
-                      (is_wrong 4 refl (set (codes "IOK,5")), tt),
-                    ),
-                  ),
-                ),
-              ),
-            ),
-          ),
-        ),
-      ),
-    ),
-  ),
-)
+shown mount bench set =
+    is_right _ refl (mount (One X) X [] (codes "MR5"))
+    & is_wrong 3 refl (mount (One X) X [] (codes "MR1.5"))
+    & is_right _ refl (mount (One X) X on (codes "mr1.5"))
+    & is_wrong 3 refl (mount (One X) X on (codes "MR+"))
+    & is_right _ refl (mount (One X) X [] (codes "GO"))
+    & is_wrong 2 refl (mount All X [] (codes "GO"))
+    & is_right _ refl (mount All X [] (codes "MR,100"))
+    & is_wrong 9 refl (mount All X [] (codes "MR,,,,,,,,"))
+    & is_right _ refl (bench All X [] (codes "08TP") eight)
+    & is_wrong 3 refl (bench All X [] (codes "3ST1") three)
+    & is_right _ refl (set (codes "iok,c"))
+    & is_wrong 4 refl (set (codes "IOK,5"))
+    & tt

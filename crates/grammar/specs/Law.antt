@@ -7,7 +7,7 @@ use Rattle.command.specs.declared.request.Selection.{Selection}
 use Rattle.command.specs.declared.request.Selection.TheVariants.{One, All}
 use Rattle.command.specs.declared.request.Refusal.{Refusal}
 use Rattle.command.specs.declared.request.Refusal.TheVariants.{Length, Name, Mode, Form, Range}
-use Rattle.command.specs.Requests.{Tuning}
+use Rattle.command.specs.declared.request.Settings.{Settings}
 use Rattle.command.specs.Operands.{units_of}
 use Rattle.command.specs.Reading.{read, read_setting}
 use Rattle.grammar.specs.Forms.{Digit, Named, Addressed, one_axis, on_bench, in_set, RightOne, RightAll, RightBench, RightSet}
@@ -56,12 +56,12 @@ abbrev pub Meant : {A : Type 0} → (named right : List ℕ → Type 0) → List
 Meant named right text r = (r ≢ Err Length) → Meaning named right text r
 
 -- On port M numbers have points where the units of their axis are on.
-abbrev pub RightMount : Selection → List Tuning → List ℕ → Type 0
+abbrev pub RightMount : Selection → List Settings → List ℕ → Type 0
 RightMount (One a) ts = RightOne (is_some (units_of ts (index a)))
 RightMount All ts = RightAll (each (λ k. is_some (units_of ts k)))
 
 abbrev pub OnMount : Type 0
-OnMount = (s : Selection) (last : Axis) (ts : List Tuning) (text : List ℕ) → Meant (Named (one_axis false)) (RightMount s ts) text (read M s last ts text)
+OnMount = (s : Selection) (last : Axis) (ts : List Settings) (text : List ℕ) → Meant (Named (one_axis false)) (RightMount s ts) text (read M s last ts text)
 
 abbrev pub Undigited : List ℕ → Type 0
 Undigited [] = Unit {0}
@@ -70,12 +70,12 @@ Undigited (b ∷ bs) = Digit b → ⊥
 -- On port P, where the leading digits are an axis number or none.
 abbrev pub OnBench : Type 0
 OnBench =
-    (s : Selection) (last : Axis) (ts : List Tuning) (text : List ℕ) → Addressed Undigited text → Meant (Addressed (Named on_bench)) RightBench text (read P s last ts text)
+    (s : Selection) (last : Axis) (ts : List Settings) (text : List ℕ) → Addressed Undigited text → Meant (Addressed (Named on_bench)) RightBench text (read P s last ts text)
 
 -- Where they are not, the text is not of the right form, and it is refused for its name at 0.
 abbrev pub OffBench : Type 0
 OffBench =
-    (s : Selection) (last : Axis) (ts : List Tuning) (text : List ℕ) → (Addressed Undigited text → ⊥) → (RightBench text → ⊥) × ((read P s last ts text ≢ Err Length) → read P s last ts text ≡ Err (Name 0))
+    (s : Selection) (last : Axis) (ts : List Settings) (text : List ℕ) → (Addressed Undigited text → ⊥) → (RightBench text → ⊥) × ((read P s last ts text ≢ Err Length) → read P s last ts text ≡ Err (Name 0))
 
 abbrev pub InSet : Type 0
 InSet = (text : List ℕ) → Meant (Named in_set) RightSet text (read_setting text)

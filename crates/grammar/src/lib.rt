@@ -4,20 +4,20 @@
 ghost use Rattle.grammar.specs.Law.{OnMount, OnBench, OffBench, InSet};
 ghost use Rattle.grammar.specs.Examples.{Examples};
 
-use names::{bench_table_stands, mount_table_stands, setting_table_stands};
+use names::{BenchName, MountName, SettingName, table_stands};
 use text::numbers_stand;
 
 /// A text is refused for its name or its form if, and only if, it is not of the right form, and then at the place up to which
 /// it begins as a text of the right form does.
-pub fn places_mean_what_they_say() -> u8
+pub fn places_mean_what_they_say()
     ensures mount { OnMount }
     ensures bench { OnBench }
     ensures axis { OffBench }
     ensures set { InSet }
     ensures examples { Examples }
 {
-    let _numbers = numbers_stand();
-    let _mount = mount_table_stands();
-    let _bench = bench_table_stands();
-    setting_table_stands()
+    numbers_stand();
+    table_stands::<MountName>();
+    table_stands::<BenchName>();
+    table_stands::<SettingName>();
 }

@@ -1,16 +1,11 @@
-use Rattle.std.proofs.Common.{◌≡◌, ℕ, ◌+◌, ◌<◌, Bool, true, ◌||◌, length, get_or, drop, is_some, None, sym, ap, ◌∙◌}
-use Rattle.std.proofs.lemmas.List.{at_drop_more, at_drop_all}
-use Rattle.command.specs.Fields.{Fields, any}
+use Rattle.std.proofs.Common.{◌||◌, is_some, refl, ◌∙◌, rules, tests}
+use Rattle.std.specs.List.{list_any}
+use Rattle.std.proofs.lemmas.Iterator.{YieldsList-from_slice}
+use Rattle.std.proofs.lemmas.Iterator.Search.{any_from_yields_List}
+use Rattle.std.proofs.lemmas.List.Recursion.{same_from_clauses}
+use Rattle.command.specs.Fields.{any}
 use Rattle.command.proofs.fields.names_any.Goals as goal
 
-one_more : (fs : Fields) (i : ℕ) (here : Bool) → i < length fs → here ≡ is_some (get_or fs i None) → any (drop i fs) ≡ any fs → (here || any (drop (i + 1) fs)) ≡ any fs
-one_more fs i here h e inv = ap (λ b. b || any (drop (i + 1) fs)) e ∙ sym (at_drop_more any fs i None h) ∙ inv
-
-pub returns-then-is_some : goal.returns-then-is_some
-returns-then-is_some c = one_more _ _ true c.loop-field-test.true c.if-is_some.ensures c.loop-field.invariant
-
-pub loop-field-preserved : goal.loop-field-preserved
-loop-field-preserved c = one_more _ _ _ c.loop-field-test.true c.if-is_some.ensures c.loop-field.invariant
-
 pub returns : goal.returns
-returns c = sym (at_drop_all any c.args.fields.now _ c.loop-field-test.false) ∙ c.loop-field.invariant
+returns c =
+    any_from_yields_List is_some _ _ _ c.any.ensures.ran (YieldsList-from_slice c.args.fields.now cc) (λ x b q k. search (rules, tests)) ∙ same_from_clauses (list_any is_some) any (λ f b. is_some f || b) refl (λ _ _. refl) (λ _ _. refl) c.args.fields.now

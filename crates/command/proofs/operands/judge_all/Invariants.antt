@@ -1,7 +1,5 @@
-use Rattle.std.proofs.Common.{map}
-use Rattle.command.specs.Requests.{tuning}
 use Rattle.command.proofs.Judging.{Judged}
 use Rattle.command.proofs.operands.judge_all.Given as goal
 
-abbrev pub invariant-loop-i : goal.invariant-loop-i
-invariant-loop-i l = Judged (map tuning l.settings) l.fields l.i l.operands
+abbrev pub invariant-loop-axis : goal.invariant-loop-axis
+invariant-loop-axis l = Judged l.settings l.fields l.axis-index l.operands

@@ -1,6 +1,7 @@
-use Rattle.names.specs.Setting.{setting_names}
-use Rattle.command.proofs.Rests.{rest_within}
+use Rattle.std.proofs.Common.{◌≡◌, ◌-◌, length, rules, arith}
 use Rattle.command.proofs.setting.read_set.Goals as goal
 
-pub overflow_sub-at : goal.overflow_sub-at
-overflow_sub-at c = rest_within setting_names _ _ _ c.in-Ok.ensures
+pub returns : goal.returns
+returns c =
+    let at : c.in_ok-name.rest.at ≡ length c.whole.result.bytes.now - length c.in_ok-name.rest.bytes.now = omega (arith, c.in_ok-name.ensures.end) in
+    rw (← c.whole.ensures.bytes, ← c.in_ok-name.ensures.name, ← at) (search rules)
