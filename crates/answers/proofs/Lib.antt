@@ -1,3 +1,2 @@
 mod Puts
 mod Lines
-mod Gathers

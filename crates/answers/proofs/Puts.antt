@@ -1,8 +1,9 @@
 -- Bytes stored past a block's end, and bytes copied one after the other. Assumes nothing.
-use Rattle.std.proofs.Common.{◌≡◌, ℕ, suc, ◌+◌, ◌-◌, ◌<◌, ◌≤◌, min, List, [], ◌∷◌, ◌++◌, length, get_or, take, drop, set, sym, refl, ap, ◌∙◌, ⊎_elim, zero-add, arith}
+use Rattle.std.proofs.Common.{◌≡◌, ℕ, suc, true, ◌+◌, ◌-◌, ◌<◌, ◌≤◌, min, eqb, List, [], ◌∷◌, ◌++◌, length, get_or, take, drop, set, sym, refl, ap, ◌∙◌, ⊎_elim, zero-add, arith}
 use borrow.Rule.Slice.PartMut.{put_mid}
-use Rattle.std.proofs.lemmas.List.{drop_all, take_all, take_more, take-append-le, length-take-le, append-nil}
+use Rattle.std.proofs.lemmas.List.{drop_all, take_all, take_more, take_min, length-take-le, append-nil}
 use Rattle.std.proofs.lemmas.Bool.{cases_lt}
+use Rattle.std.proofs.lemmas.Bool.Decides.{nat_tests}
 use Rattle.text.specs.Writing.{put, over}
 use Rattle.answers.specs.Records.{kept}
 use Rattle.text.proofs.Storing.{put-push, put-tail, put_lent}
@@ -34,21 +35,7 @@ copy_more bs block b i h e =
     ∙ put-push 0 (take i bs) (get_or bs i 0) block
     ∙ ap (λ l. over l block) (sym (take_more bs i 0 h))
 
--- the record that is kept where there was one, and where there was none
-pub kept_first : (bs text : List ℕ) → 0 < length bs → bs ≡ kept bs text
-kept_first [] text h = absurd (omega arith)
-kept_first (b ∷ bs) text h = refl
-
-pub kept_new : (bytes text copy rest : List ℕ) (len n : ℕ) → len ≡ 0 → n ≡ min (length text) 160 → copy ≡ take (n - 0) text → take n (copy ++ rest) ≡ kept (take len bytes) text
-kept_new bytes text copy rest len n none is copied =
-    let z : n - 0 ≡ n = omega arith in
-    let c : copy ≡ take n text = copied ∙ ap (λ k. take k text) z in
-    let long : length copy ≡ n = ap length c ∙ length-take-le n text (omega arith) in
-    take-append-le n copy rest (omega arith)
-    ∙ take_all n copy (omega arith)
-    ∙ c
-    ∙ ⊎_elim
-    (λ (h : length text < 160). take_all n text (omega arith) ∙ sym (take_all 160 text (omega arith)))
-    (λ h. ap (λ k. take k text) (let s : n ≡ 160 = omega arith in s))
-    (cases_lt (length text) 160)
-    ∙ ap (λ k. kept (take k bytes) text) (sym none)
+-- a record that held nothing keeps as much of the text as there is room for
+pub kept_new : (held text : List ℕ) (n : ℕ) → eqb (length held) 0 ≡ true → n ≡ min (length text) 160 → held ++ take n text ≡ kept held text
+kept_new [] text n none is = let m : n ≡ min 160 (length text) = omega arith in ap (λ k. take k text) m ∙ take_min 160 text
+kept_new (b ∷ bs) text n none is = absurd (grind (arith, nat_tests))

@@ -1,10 +1,5 @@
 -- What a first-error record holds. Assumes nothing.
 use Rattle.std.specs.Prelude.{ℕ, List, [], ◌∷◌, take}
-use Rattle.answers.specs.declared.record.ErrorRecord.{ErrorRecord}
-
--- the bytes of the text that it keeps, none where it is empty
-abbrev pub held : ErrorRecord → List ℕ
-held r = take r.len r.bytes
 
 -- after a bad text: the first one is kept, up to the most bytes that a text has
 abbrev pub kept : List ℕ → List ℕ → List ℕ

@@ -3,10 +3,10 @@ ghost use Rattle.std.specs.Prelude.{◌≡◌, ◌+◌, ◌≤◌, [], ◌∷◌
 ghost use Rattle.text.specs.Writing.{decimal, put, over};
 ghost use Rattle.model.specs.Controller.{line};
 
-use drive::axis::AXES;
 use text::{store, write_number};
 
 /// Writes a number into the tail of the block from `at` on, and `end` straight after it; says where that ends.
+/// By a rule of the project the tail of the block is lent on to the number writer.
 fn write_field(block: &mut [u8], at: usize, n: i64, end: u8) -> usize
     requires { at ≤ 1000 }
     ensures end { result ≡ at + length (decimal n ++ (end ∷ [])) }
@@ -19,7 +19,8 @@ fn write_field(block: &mut [u8], at: usize, n: i64, end: u8) -> usize
     at + len + 1
 }
 
-fn write_line(block: &mut [u8], numbers: &[i64]) -> usize
+/// Writes the numbers to the front of the block, and says how many bytes that takes; those past the block's end are not stored.
+pub(crate) fn write_line(block: &mut [u8], numbers: &[i64]) -> usize
     requires { length numbers.now ≤ 40 }
     ensures len { result ≡ length (line numbers.now) }
     ensures block { block.new ≡ over (line numbers.now) block.old }
@@ -30,21 +31,4 @@ fn write_line(block: &mut [u8], numbers: &[i64]) -> usize
         at = write_field(block, at, *n, end);
     }
     at
-}
-
-/// Writes a number and a line feed to the front of the block, and says how many bytes that takes; those past the block's end
-/// are not stored.
-pub(crate) fn write_one(block: &mut [u8], number: i64) -> usize
-    ensures len { result ≡ length (line (number ∷ [])) }
-    ensures block { block.new ≡ over (line (number ∷ [])) block.old }
-{
-    write_line(block, &[number])
-}
-
-/// Likewise a number of each axis.
-pub(crate) fn write_all(block: &mut [u8], numbers: &[i64; AXES]) -> usize
-    ensures len { result ≡ length (line numbers.now) }
-    ensures block { block.new ≡ over (line numbers.now) block.old }
-{
-    write_line(block, numbers)
 }

@@ -1,5 +1,6 @@
 -- What is answered about positions reads back as the positions.
-use Rattle.std.proofs.Common.{◌≡◌, ℕ, suc, ◌+◌, ◌^◌, ◌<◌, Bool, true, false, ◌||◌, eqb, leb, List, [], ◌∷◌, ◌++◌, map, length, drop, ℤ, nat_abs, is_ok, Err, Result, sym, refl, ap, ◌∙◌, subst, append_assoc, add-one, arith}
+use Rattle.std.proofs.Common.{◌≡◌, ℕ, ◌+◌, ◌^◌, ◌<◌, Bool, true, false, ◌||◌, eqb, leb, List, [], ◌∷◌, ◌++◌, map, length, drop, ℤ, nat_abs, is_ok, Err, Result, sym, refl, ap, ◌∙◌, subst, append_assoc, arith}
+use Rattle.std.proofs.Math.Seq.{drop-append-add}
 use Rattle.text.specs.Numbers.{digit, reads}
 use Rattle.text.specs.Writing.{decimal}
 use Rattle.text.proofs.Reading.{round_trip}
@@ -7,7 +8,6 @@ use Rattle.drive.specs.declared.axis.Axis.{Axis}
 use Rattle.drive.specs.Axes.{axes, index}
 use Rattle.drive.specs.Drive.{Ops}
 use Rattle.drive.specs.Laws.{Keeps}
-use Rattle.answers.specs.declared.question.Question.TheVariants.{Position}
 use Rattle.command.specs.declared.request.Port.{Port}
 use Rattle.model.specs.declared.row.Row.{Row}
 use Rattle.model.specs.declared.refusal.Refusal.{Refusal}
@@ -15,11 +15,7 @@ use Rattle.model.specs.declared.refusal.Refusal.TheVariants.{Sheet, Answer}
 use Rattle.model.specs.Controller.{Controller, Live, live, command, line, chosen_axes, reading, commanded, unless_short, call}
 use Rattle.controller.specs.Backs.{ReadsAs, ReadBack}
 use Rattle.controller.specs.Replies.{Did, block_after}
-use Rattle.controller.proofs.Shorts.{figure_small}
-
-drop_past : (xs : List ℕ) (e : ℕ) (ys : List ℕ) → drop (suc (length xs)) (xs ++ (e ∷ ys)) ≡ ys
-drop_past [] e ys = refl
-drop_past (x ∷ xs) e ys = drop_past xs e ys
+use Rattle.controller.proofs.Shorts.{position_small}
 
 module _ (f : Axis → ℤ) (small : (a : Axis) → nat_abs (f a) < 10 ^ 10) where
   -- a number, a byte that ends it, and then what reads as the others
@@ -27,7 +23,7 @@ module _ (f : Axis → ℤ) (small : (a : Axis) → nat_abs (f a) < 10 ^ 10) whe
   reads_field a others e l rest ends more =
       let same = append_assoc (decimal (f a)) (e ∷ l) rest in
       let after : l ++ rest ≡ drop (length (decimal (f a)) + 1) ((decimal (f a) ++ (e ∷ l)) ++ rest) =
-      sym (ap (λ bs. drop (length (decimal (f a)) + 1) bs) same ∙ rw add-one (drop_past (decimal (f a)) e (l ++ rest))) in
+      sym (ap (λ bs. drop (length (decimal (f a)) + 1) bs) same ∙ drop-append-add (decimal (f a)) (e ∷ (l ++ rest)) 1) in
       let P : List ℕ → Type 0 = λ bs. ReadsAs f others bs in (
         length (decimal (f a)),
         λ point. ap (reads point) same ∙ round_trip point (f a) [] (e ∷ (l ++ rest)) (small a) ends,
@@ -52,7 +48,7 @@ module _ {S : Type 0} (o : Ops S) (keeps : Keeps o) (l : Live S) (port : Port) (
       let f : Axis → ℤ = λ a. o.position l.machine.drive (index a) in
       let answer = d.answer ∙ ap (λ q. block_after (commanded o l port text q).outcome block) is in
       let P : List ℕ → Type 0 = λ bs. ReadsAs f (chosen_axes s) bs in
-      subst P (sym answer) (reads_line f (figure_small o keeps l.machine Position) (chosen_axes s) _)
+      subst P (sym answer) (reads_line f (position_small o l.machine keeps) (chosen_axes s) _)
 
   pub read_back : Did (call o (live l) (command port text sheet block)) c r sheet sheet' block block' → ReadBack o l port text r block'
   unfolding call

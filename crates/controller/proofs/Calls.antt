@@ -1,7 +1,9 @@
 -- What a call comes to, once the sizes of what is lent were looked at.
-use Rattle.std.proofs.Common.{◌≡◌, ℕ, ◌<◌, ◌≤◌, Bool, cond, eqb, leb, List, length, ℤ, Result, sym, refl, ap, ◌∙◌, subst, eq-eqb, ne_eqb}
+use Rattle.std.proofs.Common.{◌≡◌, ℕ, ◌<◌, ◌≤◌, Bool, eqb, leb, List, [], ◌∷◌, ◌++◌, length, take, drop, ℤ, Result, sym, refl, ap, ◌∙◌, subst, append_assoc, arith, eq-eqb, ne_eqb}
 use borrow.Author.Tests.{lt-leb}
+use Rattle.std.specs.Prelude.{IfOk}
 use Rattle.std.proofs.lemmas.Bool.{le-leb}
+use Rattle.std.proofs.lemmas.List.{drop-append-le, take-append-drop, length-take-le}
 use Rattle.drive.specs.declared.axis.Axis.{Axis}
 use Rattle.drive.specs.declared.health.Health.{Health}
 use Rattle.drive.specs.Axes.{axes}
@@ -14,15 +16,11 @@ use Rattle.command.specs.Requests.{Operands, batch_on}
 use Rattle.model.specs.declared.row.Row.{Row}
 use Rattle.model.specs.declared.refusal.Refusal.{Refusal}
 use Rattle.model.specs.declared.refusal.Refusal.TheVariants.{Sheet, Answer, Readings}
+use Rattle.model.specs.Rows.{nothing}
 use Rattle.model.specs.Machine.{each, judged, turn, clearing}
-use Rattle.model.specs.Controller.{Controller, Live, After, live, addressed, obey, place_unless, barring, conditions, command, sample, step, refused, after, all_parts, sampling, advancing, commanded, reading, unless_short, call}
-use Rattle.parts.specs.Views.{if_taken, cleared_by}
-use Rattle.controller.specs.Replies.{Took, Did}
-
--- ---- a sheet with a row for each axis is taken
-
-pub is_taken : {A : Type 0} (n : ℕ) (yes-so no-so : A) → n ≡ axes → if_taken n yes-so no-so ≡ yes-so
-is_taken n yes-so no-so h = ap (λ b. cond b yes-so no-so) (eq-eqb n axes h)
+use Rattle.model.specs.Controller.{Controller, Live, After, Outcome, untaken, done, told, dropped_all, no_rows, live, addressed, obey, place_unless, barring, conditions, command, sample, step, refused, after, all_parts, sampling, advancing, commanded, reading, unless_short, call}
+use Rattle.parts.specs.Views.{cleared_by}
+use Rattle.controller.specs.Replies.{answered, sheet_after, block_after, Took, Did}
 
 -- ---- what is shown of one is shown of the other
 
@@ -33,7 +31,40 @@ pub did_by : {S : Type 0} {a b : After S} {c : Controller S} {r : Result ℕ Ref
 did_by {S} {a} {b} {c} {r} {sheet} {sheet'} {block} {block'} e d =
     let P : After S → Type 0 = λ x. Did x c r sheet sheet' block block' in subst P e d
 
+-- ---- the front of a block is lent, and the rest stays
+
+kept_rest : (n : ℕ) (block : List ℕ) → n ≤ 192 → 192 ≤ length block → drop n (take 192 block) ++ drop 192 block ≡ drop n block
+kept_rest n block h room =
+    sym (drop-append-le n (take 192 block) (drop 192 block) (omega (arith, length-take-le 192 block room))) ∙ ap (drop n) (take-append-drop 192 block)
+
+lent_block : (t : Outcome) (block front front' : List ℕ) → 192 ≤ length block → front ≡ take 192 block → IfOk (answered t) (λ n. n ≤ 192) →
+    front' ≡ block_after t front → front' ++ drop 192 block ≡ block_after t block
+lent_block (told rows bytes) block front front' room first fits e =
+    ap (λ b. b ++ drop 192 block) (e ∙ ap (λ b. bytes ++ drop (length bytes) b) first)
+    ∙ append_assoc bytes (drop (length bytes) (take 192 block)) (drop 192 block)
+    ∙ ap (λ b. bytes ++ b) (kept_rest (length bytes) block fits room)
+lent_block untaken block front front' room first fits e = ap (λ b. b ++ drop 192 block) (e ∙ first) ∙ take-append-drop 192 block
+lent_block (refused r) block front front' room first fits e = ap (λ b. b ++ drop 192 block) (e ∙ first) ∙ take-append-drop 192 block
+lent_block done block front front' room first fits e = ap (λ b. b ++ drop 192 block) (e ∙ first) ∙ take-append-drop 192 block
+lent_block (dropped_all ns) block front front' room first fits e = ap (λ b. b ++ drop 192 block) (e ∙ first) ∙ take-append-drop 192 block
+
+-- a command that was lent the whole sheet and the front of the block
+pub lent : {S : Type 0} {a : After S} {c : Controller S} {r : Result ℕ Refusal} {rows sheet sheet' : List Row} {front front' : List ℕ} (block : List ℕ) →
+    192 ≤ length block → rows ≡ sheet → front ≡ take 192 block → IfOk r (λ n. n ≤ 192) →
+    Did a c r rows sheet' front front' → Did a c r sheet sheet' block (front' ++ drop 192 block)
+lent {S} {a} {c} {r} {rows} {sheet} {sheet'} {front} {front'} block room whole first fits d = record {
+  now = d.now;
+  says = d.says;
+  rows = d.rows ∙ ap (sheet_after a.outcome) whole;
+  answer = lent_block a.outcome block front front' room first (subst (λ x. IfOk x (λ n. n ≤ 192)) d.says fits) d.answer;
+}
+
 -- ---- a request
+
+-- the blank sheet as the code has it
+pub blank_is : nothing ∷ nothing ∷ nothing ∷ nothing ∷ nothing ∷ nothing ∷ nothing ∷ nothing ∷ [] ≡ no_rows
+unfolding axes
+blank_is = refl
 
 module _ {S : Type 0} (o : Ops S) (l : Live S) (last : Axis) where
   abbrev k : Live S

@@ -1,3 +1,4 @@
+mod Refusing
 mod Calls
 mod Shorts
 mod Backs

@@ -18,13 +18,11 @@ use Rattle.command.specs.declared.request.Selection.{Selection}
 use Rattle.command.specs.declared.request.Selection.TheVariants.{One, All}
 use Rattle.command.specs.declared.request.Refusal.{Refusal}
 use Rattle.command.specs.declared.request.Refusal.TheVariants.{Length, Name, Mode, Form, Range}
-use Rattle.command.specs.Requests.{Tuning, recorded}
+use Rattle.command.specs.declared.request.Settings.{Settings}
+use Rattle.command.specs.Requests.{recorded}
 use Rattle.command.specs.Reading.{read}
 use Rattle.model.specs.Machine.{Machine, at}
 use Rattle.model.specs.Controller.{line, chosen_axes, noted}
-use Rattle.answers.specs.declared.question.Question.{Question}
-use Rattle.answers.specs.declared.question.Question.TheVariants.{Position, Places}
-use Rattle.answers.specs.Figures.{figure}
 use Rattle.answers.specs.Records.{kept}
 
 line_short : (f : Axis → ℤ) → ((a : Axis) → nat_abs (f a) < 10 ^ 10) → (xs : List Axis) → length (line (map f xs)) ≤ 12 * length xs
@@ -40,7 +38,7 @@ recorded_within (Form p) text = omega (arith, length-take (p + 1) text)
 recorded_within (Range p) text = omega arith
 
 -- a refused text fits the first-error record
-pub recorded_short : (port : Port) (s : Selection) (last : Axis) (ts : List Tuning) (text : List ℕ) (r : Refusal) → Err r ≡ read port s last ts text → length (recorded r text) ≤ 160
+pub recorded_short : (port : Port) (s : Selection) (last : Axis) (ts : List Settings) (text : List ℕ) (r : Refusal) → Err r ≡ read port s last ts text → length (recorded r text) ≤ 160
 unfolding read
 recorded_short port s last ts text r e =
     ⊎_elim
@@ -56,17 +54,19 @@ in_range : {z : ℤ} → InRange z → nat_abs z < 10 ^ 10
 in_range {z} h = omega (arith, ints)
 
 -- what is asked of the selected axes
-module _ {S : Type 0} (o : Ops S) (keeps : Keeps o) (m : Machine S) where
+pub figures_short : (f : Axis → ℤ) → ((a : Axis) → nat_abs (f a) < 10 ^ 10) → (s : Selection) → length (line (map f (chosen_axes s))) ≤ 192
+figures_short f small (One a) = omega (arith, line_short f small (a ∷ []))
+figures_short f small All = omega (arith, line_short f small in_order)
+
+module _ {S : Type 0} (o : Ops S) (m : Machine S) where
+  pub position_small : Keeps o → (a : Axis) → nat_abs (o.position m.drive (index a)) < 10 ^ 10
+  position_small keeps a = in_range (keeps.sound m.drive (index a) (index_small a)).position
+
   free_small : (q : View) → nat_abs (pos (free q)) < 10 ^ 10
   free_small q = omega arith
 
-  pub figure_small : (q : Question) (a : Axis) → nat_abs (figure o m q a) < 10 ^ 10
-  figure_small Position a = in_range (keeps.sound m.drive (index a) (index_small a)).position
-  figure_small Places a = free_small (at (index a) m).queue
-
-  pub figures_short : (q : Question) (s : Selection) → length (line (map (figure o m q) (chosen_axes s))) ≤ 192
-  figures_short q (One a) = omega (arith, line_short (figure o m q) (figure_small q) (a ∷ []))
-  figures_short q All = omega (arith, line_short (figure o m q) (figure_small q) in_order)
+  pub places_small : (a : Axis) → nat_abs (pos (free (at (index a) m).queue)) < 10 ^ 10
+  places_small a = free_small (at (index a) m).queue
 
 -- a short text is kept whole
 pub noted_short : (port : Port) (errors text : List ℕ) → port ≡ M → length text ≤ 160 → kept errors text ≡ noted port errors text

@@ -11,7 +11,8 @@ use Rattle.command.specs.declared.request.Request.{Request}
 use Rattle.command.specs.declared.request.Request.TheVariants.{Select, Place, Clear, Positions, Places, ErrorRecord}
 use Rattle.command.specs.declared.request.Command.{Command}
 use Rattle.command.specs.declared.request.Refusal.{Refusal as Unread}
-use Rattle.command.specs.Requests.{Change, batch_on}
+use Rattle.command.specs.declared.request.Setting.{Setting}
+use Rattle.command.specs.Requests.{batch_on}
 use Rattle.command.specs.Reading.{read_setting}
 use Rattle.model.specs.declared.row.Row.{Row}
 use Rattle.model.specs.declared.refusal.Refusal.{Refusal}
@@ -84,7 +85,7 @@ module _ {S : Type 0} (o : Ops S) (l : C.Live S) where
   step_mute readings h sheet =
       unless Mute (λ r. tt) l (eqb (length sheet) axes) Sheet _ (unless Mute (λ r. tt) l (eqb (length readings) axes) Readings _ tt)
 
-set_by : {S : Type 0} (p : C.Parked S) (x : Result Change Unread) → Settled (C.setting_by p x).outcome
+set_by : {S : Type 0} (p : C.Parked S) (x : Result Setting Unread) → Settled (C.setting_by p x).outcome
 set_by p (Ok c) = tt
 set_by p (Err r) = tt
 

@@ -1,25 +1,23 @@
 -- The two states as the model has them: no field is left out. Assumes nothing.
-use Rattle.answers.specs.Records.{held}
 use Rattle.drive.specs.Drive.{Ops}
 use Rattle.model.specs.Controller as C
 use Rattle.parts.specs.Views.{machine_view}
 use Rattle.controller.specs.declared.states.Parked.{Parked}
 use Rattle.controller.specs.declared.states.Live.{Live}
-use Rattle.controller.specs.Setups.{setup_view}
 
 module _ {D S : Type 0} (state : D → S) where
   abbrev pub parked_view : Parked D → C.Parked S
   parked_view p =
-      record { machine = machine_view state p.machine; setup = setup_view p.setup; dropped = p.dropped }
+      record { machine = machine_view state p.machine; setup = p.setup; dropped = p.dropped }
 
   abbrev pub live_view : Live D → C.Live S
   live_view l = record {
     machine = machine_view state l.machine;
-    setup = setup_view l.setup;
+    setup = l.setup;
     selection = l.selection;
     last = l.last;
     sampled = l.sampled;
-    errors = held l.errors;
+    errors = l.errors;
   }
 
   -- What the defined controller makes of a call on one that is parked, or live.

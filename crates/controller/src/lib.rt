@@ -5,7 +5,7 @@ mod live_calls;
 mod obeying;
 mod parked_calls;
 mod setup;
-mod sheet;
 mod states;
 
+pub use live_calls::ANSWER;
 pub use states::{Live, Parked};

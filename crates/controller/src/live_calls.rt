@@ -1,8 +1,9 @@
 //! What a live controller takes and tells.
-ghost use Rattle.std.specs.Prelude.{◌≡◌, true, length};
+//! By a rule of the project a host lends the sheet and the answer block, and they are written in place.
+ghost use Rattle.std.specs.Prelude.{◌≡◌, true, []};
 ghost use Rattle.drive.specs.Axes.{axes, index};
 ghost use Rattle.model.specs.Machine.{each, clear, judged, turn};
-ghost use Rattle.model.specs.Controller.{after, parked, live, command, sample, step, dropped_all, all_parts, sampling, advancing, parking};
+ghost use Rattle.model.specs.Controller.{after, parked, live, command, sample, step, told, dropped_all, all_parts, sampling, advancing, parking};
 ghost use Rattle.controller.specs.Backs.{ReadBack};
 ghost use Rattle.controller.specs.Replies.{Took, Did};
 ghost use Rattle.controller.specs.Views.{parked_view, live_view, on_live};
@@ -16,8 +17,8 @@ use drive::motion::Drive;
 use model::refusal::Refusal;
 use model::row::Row;
 
-/// The fewest bytes of an answer block.
-const ANSWER: usize = 192;
+/// The fewest bytes of an answer block, and the most of an answer.
+pub const ANSWER: usize = 192;
 
 impl<D: Drive> Live<D> {
     /// Does what a text asks, and tells the length of the answer, 0 for none. Positions that are told read back as numbers.
@@ -31,12 +32,8 @@ impl<D: Drive> Live<D> {
         ensures does { Did (on_live D.Drive.state D.Drive.ops self.old (command port text.now sheet.old answer.old)) (live (live_view D.Drive.state self.new)) result sheet.old sheet.new answer.old answer.new }
         ensures back { ReadBack D.Drive.ops (live_view D.Drive.state self.old) port text.now result answer.new }
     {
-        if sheet.len() != AXES {
-            return Err(Refusal::Sheet);
-        }
-        if answer.len() < ANSWER {
-            return Err(Refusal::Answer);
-        }
+        let sheet = sheet.as_mut_array().ok_or(Refusal::Sheet)?;
+        let answer = answer.first_chunk_mut().ok_or(Refusal::Answer)?;
         let context = Context {
             selection: self.selection,
             last: self.last,
@@ -55,19 +52,17 @@ impl<D: Drive> Live<D> {
     pub fn sample(&mut self, word: u16, sheet: &mut [Row]) -> Result<(), Refusal>
         ensures { Took (on_live D.Drive.state D.Drive.ops self.old (sample word sheet.old)) (live (live_view D.Drive.state self.new)) result sheet.old sheet.new }
     {
-        if sheet.len() != AXES {
-            return Err(Refusal::Sheet);
-        }
-        self.judge(word, sheet)
+        let sheet = sheet.as_mut_array().ok_or(Refusal::Sheet)?;
+        self.judge(word, sheet);
+        Ok(())
     }
 
     /// As a sample, with a row for each axis.
-    fn judge(&mut self, word: u16, sheet: &mut [Row]) -> Result<(), Refusal>
-        requires { length sheet.old ≡ axes }
-        ensures { Took (all_parts (sampling (live_view D.Drive.state self.old) word) (each axes (judged D.Drive.ops word) (live_view D.Drive.state self.old).machine)) (live (live_view D.Drive.state self.new)) result sheet.old sheet.new }
+    fn judge(&mut self, word: u16, sheet: &mut [Row; AXES])
+        ensures { after (live (live_view D.Drive.state self.new)) (told sheet.new []) ≡ all_parts (sampling (live_view D.Drive.state self.old) word) (each axes (judged D.Drive.ops word) (live_view D.Drive.state self.old).machine) }
     {
         self.sampled = word;
-        self.machine.judge_all(word, sheet)
+        self.machine.judge_all(word, sheet);
     }
 
     /// Advances the drive once, then executes at most one entry of each axis.
@@ -79,22 +74,20 @@ impl<D: Drive> Live<D> {
     ) -> Result<(), Refusal>
         ensures { Took (on_live D.Drive.state D.Drive.ops self.old (step readings.now health sheet.old)) (live (live_view D.Drive.state self.new)) result sheet.old sheet.new }
     {
-        if sheet.len() != AXES {
-            return Err(Refusal::Sheet);
-        }
+        let sheet = sheet.as_mut_array().ok_or(Refusal::Sheet)?;
         if readings.len() != AXES {
             return Err(Refusal::Readings);
         }
-        self.turn(readings, health, sheet)
+        self.turn(readings, health, sheet);
+        Ok(())
     }
 
     /// As a step, with a reading and a row for each axis.
-    fn turn(&mut self, readings: &[i64], health: Health, sheet: &mut [Row]) -> Result<(), Refusal>
-        requires { length sheet.old ≡ axes }
-        ensures { Took (all_parts (live_view D.Drive.state self.old) (each axes (turn D.Drive.ops self.old.sampled) (advancing D.Drive.ops (live_view D.Drive.state self.old) readings.now health))) (live (live_view D.Drive.state self.new)) result sheet.old sheet.new }
+    fn turn(&mut self, readings: &[i64], health: Health, sheet: &mut [Row; AXES])
+        ensures { after (live (live_view D.Drive.state self.new)) (told sheet.new []) ≡ all_parts (live_view D.Drive.state self.old) (each axes (turn D.Drive.ops self.old.sampled) (advancing D.Drive.ops (live_view D.Drive.state self.old) readings.now health)) }
     {
         self.machine.advance(readings, health);
-        self.machine.turn_all(self.sampled, sheet)
+        self.machine.turn_all(self.sampled, sheet);
     }
 
     /// Clears and halts every axis, and waits to be armed again.

@@ -2,7 +2,6 @@
 ghost use Rattle.std.specs.Prelude.{◌≡◌};
 ghost use Rattle.model.specs.Account.{Accounted};
 ghost use Rattle.model.specs.Controller.{parked, set_call, apply, arming, new};
-ghost use Rattle.command.specs.Requests.{change};
 ghost use Rattle.controller.specs.Replies.{taken};
 ghost use Rattle.controller.specs.Views.{parked_view, live_view, on_parked};
 
@@ -37,17 +36,12 @@ impl<D: Drive> Parked<D> {
         ensures says { result ≡ taken (on_parked D.Drive.state D.Drive.ops self.old (set_call text.now)).outcome }
         ensures does { parked (parked_view D.Drive.state self.new) ≡ (on_parked D.Drive.state D.Drive.ops self.old (set_call text.now)).now }
     {
-        match read_setting(text) {
-            Ok(setting) => {
-                self.apply(setting);
-                Ok(())
-            }
-            Err(unread) => Err(Refusal::Text(unread)),
-        }
+        self.apply(read_setting(text)?);
+        Ok(())
     }
 
     fn apply(&mut self, setting: Setting)
-        ensures { parked_view D.Drive.state self.new ≡ apply (change setting) (parked_view D.Drive.state self.old) }
+        ensures { parked_view D.Drive.state self.new ≡ apply setting (parked_view D.Drive.state self.old) }
     {
         let axis = self.setup.axis();
         match setting {

@@ -1,4 +1,5 @@
 //! A controller's two states. Arming turns a parked controller into a live one, and parking turns it back.
+//! By a rule of the project they are two types, and neither is copied: each of these calls uses up what it turns.
 use crate::setup::Setup;
 use answers::ErrorRecord;
 use command::request::Selection;
@@ -6,6 +7,7 @@ use drive::axis::{AXES, Axis};
 use parts::Machine;
 
 /// Takes settings, and waits to be armed.
+// No `impl Model`: its `Value` would hold the drive's State, a ghost member of a bound, which a `Value` cannot name.
 #[derive(Drop)]
 pub struct Parked<D> {
     pub(crate) machine: Machine<D>,

@@ -22,7 +22,8 @@ use Rattle.queue.specs.declared.entry.Code.{Code}
 use Rattle.queue.specs.Views.{judged as verdict-of, lacks_commands, lacks_arguments, lacks_count, placed_by}
 use Rattle.command.specs.declared.request.Port.{Port}
 use Rattle.command.specs.declared.request.Selection.{Selection}
-use Rattle.command.specs.Requests.{Change, select, units_on, units_off, kill_input, no_kill_inputs}
+use Rattle.command.specs.declared.request.Setting.{Setting}
+use Rattle.command.specs.declared.request.Setting.TheVariants as Sets
 use Rattle.command.specs.declared.request.Request.{Request}
 use Rattle.command.specs.declared.request.Request.TheVariants.{Select, Place, Clear, Positions, Places, ErrorRecord}
 use Rattle.command.specs.declared.request.Command.{Command}
@@ -277,14 +278,14 @@ module _ {S : Type 0} (o : Ops S) (keeps : Keeps o) (x : ℕ) (inside : x < axes
     new_kills : (f : KillInputs → KillInputs) → Goes w (parked p) quiet w (parked (kills_set p f))
     new_kills f = reset p.setup _ (length-set p.machine.posts (index p.setup.axis) _) (set_queue p.machine.posts (index p.setup.axis) x _ refl)
 
-    applied : (s : Change) → Goes w (parked p) quiet w (parked (apply s p))
-    applied (select a) = reset _ p.machine.posts refl refl
-    applied (units_on f) = reset _ p.machine.posts refl refl
-    applied units_off = reset _ p.machine.posts refl refl
-    applied (kill_input b l) = new_kills (λ k. with_kill k (contact_of (pos b)) l)
-    applied no_kill_inputs = new_kills (λ k. no_kills)
+    applied : (s : Setting) → Goes w (parked p) quiet w (parked (apply s p))
+    applied (Sets.Select a) = reset _ p.machine.posts refl refl
+    applied (Sets.UnitsOn f) = reset _ p.machine.posts refl refl
+    applied Sets.UnitsOff = reset _ p.machine.posts refl refl
+    applied (Sets.KillInput b l) = new_kills (λ k. with_kill k (contact_of (pos b)) l)
+    applied Sets.NoKillInputs = new_kills (λ k. no_kills)
 
-    kept_set : (r : Result Change Unread) → Goes w (parked p) quiet w (setting_by p r).now
+    kept_set : (r : Result Setting Unread) → Goes w (parked p) quiet w (setting_by p r).now
     kept_set (Ok s) = applied s
     kept_set (Err r) = unchanged w (parked p) g
 

@@ -20,7 +20,10 @@ use Rattle.command.specs.declared.request.Request.{Request}
 use Rattle.command.specs.declared.request.Request.TheVariants.{Select, Place, Clear, Positions, Places, ErrorRecord}
 use Rattle.command.specs.declared.request.Command.{Command}
 use Rattle.command.specs.declared.request.Refusal.{Refusal as Unread}
-use Rattle.command.specs.Requests.{Tuning, Change, select, units_on, units_off, kill_input, no_kill_inputs, batch_on, recorded}
+use Rattle.command.specs.declared.request.Settings.{Settings}
+use Rattle.command.specs.declared.request.Setting.{Setting}
+use Rattle.command.specs.declared.request.Setting.TheVariants as Sets
+use Rattle.command.specs.Requests.{batch_on, recorded}
 use Rattle.command.specs.Reading.{read, read_setting}
 use Rattle.model.specs.declared.row.Row.{Row}
 use Rattle.model.specs.declared.refusal.Refusal.{Refusal}
@@ -30,7 +33,7 @@ use Rattle.model.specs.Machine.{Post, Machine, Part, at, put, each, blank, clear
 
 -- What survives arming and parking: the settings of each axis, and Set's own axis.
 pub record Setup : Type 0 where
-  pub settings : List Tuning
+  pub settings : List Settings
   pub axis : Axis
 
 pub record Parked (S : Type 0) : Type 0 where
@@ -114,12 +117,12 @@ kills_set p f =
 abbrev pub with_setup : {S : Type 0} → Parked S → Setup → Parked S
 with_setup p u = record { machine = p.machine; setup = u; dropped = p.dropped }
 
-abbrev pub apply : {S : Type 0} → Change → Parked S → Parked S
-apply (select a) p = with_setup p (record { settings = p.setup.settings; axis = a })
-apply (units_on f) p = with_setup p (units_set p.setup (Some f))
-apply units_off p = with_setup p (units_set p.setup None)
-apply (kill_input b l) p = kills_set p (λ k. with_kill k (contact_of (pos b)) l)
-apply no_kill_inputs p = kills_set p (λ k. no_kills)
+abbrev pub apply : {S : Type 0} → Setting → Parked S → Parked S
+apply (Sets.Select a) p = with_setup p (record { settings = p.setup.settings; axis = a })
+apply (Sets.UnitsOn f) p = with_setup p (units_set p.setup (Some f))
+apply Sets.UnitsOff p = with_setup p (units_set p.setup None)
+apply (Sets.KillInput b l) p = kills_set p (λ k. with_kill k (contact_of (pos b)) l)
+apply Sets.NoKillInputs p = kills_set p (λ k. no_kills)
 
 -- ---- placing
 
@@ -213,7 +216,7 @@ arming p w = record {
 abbrev pub parking : {S : Type 0} → Live S → Part S (List ℕ) → After S
 parking l r = after (parked (record { machine = r.now; setup = l.setup; dropped = r.tells })) (dropped_all r.tells)
 
-abbrev pub setting_by : {S : Type 0} → Parked S → Result Change Unread → After S
+abbrev pub setting_by : {S : Type 0} → Parked S → Result Setting Unread → After S
 setting_by p (Ok s) = after (parked (apply s p)) done
 setting_by p (Err r) = after (parked p) (refused (Text r))
 

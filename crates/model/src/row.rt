@@ -1,7 +1,7 @@
 //! A row of a sheet: what a call did to one axis.
 
-/// Five numbers; those that the kind does not name are 0.
-#[derive(Clone, Copy)]
+/// Five numbers, as a host reads them, so the kind is one of them; those that the kind does not name are 0.
+#[derive(Clone, Copy, Debug, PartialEq, Eq)]
 pub struct Row {
     /// What happened, from 0 to 9.
     pub kind: u8,

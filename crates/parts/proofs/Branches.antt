@@ -1,6 +1,5 @@
 -- The parts of a call, at what was found of an axis.
 use Rattle.std.proofs.Common.{◌≡◌, ℕ, ◌+◌, ◌-◌, Bool, true, false, not, List, [], ◌∷◌, length, ℤ, Some, None, Option, Result, sym, refl, ap, ◌∙◌, ap₂}
-use Rattle.contacts.specs.Kills.{hit}
 use Rattle.drive.specs.declared.motion.Decline.{Decline}
 use Rattle.drive.specs.Drive.{Ops, answer, still, reaches, reply, tried, left_by}
 use Rattle.queue.specs.declared.entry.Code.{Code}
@@ -8,13 +7,9 @@ use Rattle.queue.specs.declared.entry.Code.TheVariants.{Ma, Mr, Go, Bh, Bl, Sw, 
 use Rattle.queue.specs.declared.entry.Entry.{Entry}
 use Rattle.queue.specs.declared.axis.Head.{Head}
 use Rattle.queue.specs.Views.{first_of, head_of}
-use Rattle.queue.specs.declared.entry.Batch.{Batch}
-use Rattle.command.specs.declared.request.Request.{Request}
-use Rattle.command.specs.Requests.{clears_on}
 use Rattle.model.specs.declared.row.Row.{Row}
 use Rattle.model.specs.Rows.{nothing, in_motion, awaiting, drive_down, dead, by_reach}
-use Rattle.model.specs.Machine.{Machine, Part, Next, stays, runs, overreaches, at, waiting, unless, held, reached, going, heading, queued, clear, judge, judged, next, perform, turn, clear_if, place, placing}
-use Rattle.parts.specs.Views.{cleared_by}
+use Rattle.model.specs.Machine.{Machine, Part, Next, stays, runs, overreaches, at, waiting, unless, held, reached, going, heading, queued, clear, next, perform, turn}
 use Rattle.parts.specs.Turns.{answered, goes}
 
 -- ---- the head of a queue
@@ -74,10 +69,6 @@ module _ {S : Type 0} (o : Ops S) (w k : ℕ) (m : Machine S) where
       ∙ (λ i. unless (by-kill i) dead (found (by-head i) (by-still i) (holding (by-head i)) (headed (by-head i))))
       ∙ ap (unless (at k m).killed dead) (finds (waiting (at k m)) (at k m).queue.count _))
 
-  pub judged_at : (killed : Bool) (hits : Bool) → killed ≡ (at k m).killed → hits ≡ hit (at k m).kills w → judge o killed hits k m ≡ judged o w k m
-  unfolding judged
-  judged_at killed hits e f = ap₂ (λ a b. judge o a b k m) e f
-
 module _ {S : Type 0} (o : Ops S) (k : ℕ) (m : Machine S) where
   pub stayed : (r : Row) → ◌≡◌ {A = Part S Row} (record { now = m; tells = r }) (perform o k m (stays r))
   unfolding perform
@@ -101,11 +92,3 @@ module _ {S : Type 0} (o : Ops S) (k : ℕ) (m : Machine S) where
   pub planned : (e : Entry) (t : ℤ) → Some t ≡ (at k m).queue.plan → answered e t (reply o m.drive k t) ≡ goes o k m e
   planned e t is =
       answers (o.down m.drive k) (reaches o m.drive k t) e t ∙ ap (λ p. going p (o.down m.drive k) (reaches o m.drive k) e) is
-
-  pub placed_at : (batches : ℕ → Option Batch) (b : Option Batch) → b ≡ batches k → place o b k m ≡ placing o batches k m
-  unfolding placing
-  placed_at batches b is = ap (λ x. place o x k m) is
-
-  pub cleared_at : (r : Request) (halt named : Bool) → named ≡ clears_on r k → clear_if o named halt k m ≡ cleared_by o r halt k m
-  unfolding cleared_by
-  cleared_at r halt named is = ap (λ x. clear_if o x halt k m) is

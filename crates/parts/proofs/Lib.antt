@@ -1,4 +1,3 @@
 mod Branches
 mod Loops
 mod Barring
-mod Seen

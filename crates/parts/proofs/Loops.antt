@@ -1,11 +1,11 @@
 -- A loop that does one axis's part after the other, and writes down what each tells.
-use Rattle.std.proofs.Common.{◌≡◌, ℕ, suc, ◌+◌, ◌<◌, ◌≤◌, List, [], ◌∷◌, ◌++◌, map, length, get_or, take, drop, set, sym, refl, ap, ◌∙◌, ap₂, add-one, arith, take-suc-set}
-use Rattle.std.proofs.lemmas.List.{take_all, drop_all, append-nil, map-set, get_or-map, length-map}
-use Rattle.std.proofs.lemmas.List.Edits.{map_over_more}
-use Rattle.std.proofs.lemmas.Bool.Decides.{nat_tests}
+use Rattle.std.proofs.Common.{◌≡◌, ℕ, suc, ◌+◌, ◌<◌, List, [], ◌∷◌, ◌++◌, length, get_or, take, set, replicate, sym, refl, ap, ◌∙◌, ap₂, add-one, arith, take-suc-set}
+use Rattle.std.proofs.lemmas.List.{take_all, same_lists, get_or-replicate, length-replicate}
+use Rattle.std.specs.Array.{IsFromFnResult}
+use Rattle.std.specs.Fn.{Mut, Called}
 use Rattle.drive.specs.Axes.{axes}
+use Rattle.drive.proofs.Indices.{axes_is}
 use Rattle.model.specs.Machine.{Machine, Part, each}
-use Rattle.parts.specs.Views.{if_taken}
 
 module _ {S R : Type 0} (f : ℕ → Machine S → Part S R) (start : Machine S) where
   -- The axes below `n` had their parts: `m` is the machine after these, and the front of `rs` what they told.
@@ -30,26 +30,12 @@ module _ {S R : Type 0} (f : ℕ → Machine S → Part S R) (start : Machine S)
   each_all i m rs end full done =
       ap (λ l. record { now = m; tells = l }) (sym (take_all i rs (omega arith))) ∙ done ∙ ap (λ n. each n f start) end
 
--- A loop that changes one element after the other, of which `view` is seen.
-module _ {X Y : Type 0} (view : X → Y) (f : Y → Y) (xs : List X) where
-  -- Those below `i` are changed.
-  abbrev pub Turned : ℕ → List X → Type 0
-  Turned i ys = map view ys ≡ map f (take i (map view xs)) ++ drop i (map view xs)
-
-  pub turned_more : (i : ℕ) (ys : List X) (x y : X) → i < length xs → i < length ys → x ≡ get_or ys i x → Turned i ys → view y ≡ f (view x) → Turned (i + 1) (set ys i y)
-  turned_more i ys x y h l at before is =
-      map-set view ys i y
-      ∙ ap (set (map view ys) i) is
-      ∙ map_over_more f (map view xs) (map view ys) i (view x) (simp length-map h) before (ap view at ∙ sym (get_or-map view ys i x (view x) l))
-
-  pub turned_all : (i : ℕ) (ys : List X) → length xs ≤ i → Turned i ys → map view ys ≡ map f (map view xs)
-  turned_all i ys h done =
-      done ∙ ap₂ (λ a b. map f a ++ b) (take_all i (map view xs) (simp length-map h)) (drop_all i (map view xs) (simp length-map h)) ∙ append-nil (map f (map view xs))
-
--- A sheet with a row for each axis is taken, and any other is not.
-module _ {A : Type 0} (n : ℕ) (taken refused : A) where
-  pub is_taken : n ≡ axes → taken ≡ if_taken n taken refused
-  is_taken h = grind (arith, nat_tests)
-
-  pub not_taken : (n ≡ axes → ⊥) → refused ≡ if_taken n taken refused
-  not_taken h = grind (arith, nat_tests)
+-- A list of what calls of a closure give at each axis, each of them the same.
+pub each_same : {F A : Type 0} (g : Mut F (ℕ × Unit {0}) A) (f : F) (xs : List A) (a : A) →
+    IsFromFnResult g f xs 8 → ((k : ℕ) (p q : F) (x : A) → Called g p (k, tt) x q → x ≡ a) → xs ≡ replicate axes a
+each_same g f xs a made gives =
+    same_lists xs (replicate axes a) (made.long ∙ sym axes_is ∙ sym (length-replicate axes a))
+    (λ k d h.
+    let low : k < 8 = omega (arith, made.long) in
+    let here = made.at k d low in
+    gives k here.0 here.1 (get_or xs k d) here.2 ∙ sym (get_or-replicate axes k a d (omega (arith, axes_is))))

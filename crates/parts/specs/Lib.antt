@@ -1,3 +1,4 @@
+pub mod Kinds
 pub mod Views
 pub mod Turns
-pub mod Checks
+pub mod Conditions

@@ -3,7 +3,6 @@
 
 mod machine;
 mod post;
-mod posts;
 mod rows;
 
 pub use machine::Machine;

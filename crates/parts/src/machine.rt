@@ -4,7 +4,7 @@ ghost use Rattle.drive.specs.Axes.{axes, index};
 ghost use Rattle.drive.specs.Drive.{all_halted};
 ghost use Rattle.model.specs.Controller.{armed};
 ghost use Rattle.model.specs.Machine.{blank, at, clear};
-ghost use Rattle.parts.specs.Views.{post_view, posts_view, machine_view, part, kills_put, advanced};
+ghost use Rattle.parts.specs.Views.{machine_view, part, kills_put, advanced};
 
 mod all;
 mod commands;
@@ -13,25 +13,33 @@ mod sample;
 mod turn;
 
 use crate::post::Post;
-use crate::posts::Posts;
 use contacts::kill::KillInputs;
-use drive::axis::Axis;
+use drive::axis::{AXES, Axis};
 use drive::health::Health;
 use drive::motion::{Drive, halt_all};
+use std::array;
 
 /// The output word has a bit for each contact that BH and BL drive.
+// No `impl Model`: its `Value` would hold the drive's State, a ghost member of a bound, which a `Value` cannot name.
 #[derive(Drop)]
 pub struct Machine<D> {
     drive: D,
-    posts: Posts,
+    posts: [Post; AXES],
     output: u16,
+}
+
+/// A blank post for each axis.
+fn blank_posts() -> [Post; AXES]
+    ensures { result ≡ replicate axes blank }
+{
+    array::from_fn(|_| Post::new())
 }
 
 impl<D: Drive> Machine<D> {
     fn post(&self, axis: Axis) -> &Post
-        ensures { post_view result.now ≡ at (index axis) (machine_view D.Drive.state self.now) }
+        ensures { result.now ≡ at (index axis) (machine_view D.Drive.state self.now) }
     {
-        self.posts.of(axis)
+        &self.posts[axis.index()]
     }
 
     /// Over a drive: every axis is halted, and has nothing of its own.
@@ -42,7 +50,7 @@ impl<D: Drive> Machine<D> {
         halt_all(&mut drive);
         Machine {
             drive,
-            posts: Posts::new(),
+            posts: blank_posts(),
             output: 0,
         }
     }
@@ -62,16 +70,18 @@ impl<D: Drive> Machine<D> {
 
     /// For arming under a word: each axis is armed, and no output bit is 1.
     pub fn arm(&mut self, word: u16)
-        ensures { machine_view D.Drive.state self.new ≡ record { drive = D.Drive.state self.old.drive; posts = map (armed word) (posts_view self.old.posts); output = 0 } }
+        ensures { machine_view D.Drive.state self.new ≡ record { drive = D.Drive.state self.old.drive; posts = map (armed word) self.old.posts; output = 0 } }
     {
-        self.posts.arm(word);
+        for post in &mut self.posts {
+            post.arm(word);
+        }
         self.output = 0;
     }
 
     pub fn set_kills(&mut self, axis: Axis, kills: KillInputs)
         ensures { machine_view D.Drive.state self.new ≡ kills_put (index axis) (machine_view D.Drive.state self.old) kills }
     {
-        self.posts.set_kills(axis, kills);
+        self.posts[axis.index()].set_kills(kills);
     }
 
     /// The drive advances once.
@@ -82,10 +92,11 @@ impl<D: Drive> Machine<D> {
     }
 
     /// Clears the axis, and halts it where `halt` says so; tells how many entries were dropped.
+    #[tactic(auto, unfolding(model::specs::Machine::clear))]
     fn clear(&mut self, axis: Axis, halt: bool) -> usize
         ensures { part D.Drive.state self.new result ≡ clear D.Drive.ops halt (index axis) (machine_view D.Drive.state self.old) }
     {
-        let dropped = self.posts.clear(axis);
+        let dropped = self.posts[axis.index()].clear();
         if halt {
             self.drive.halt(axis);
         }

@@ -5,11 +5,12 @@ ghost use Rattle.queue.specs.Entries.{InRange};
 ghost use Rattle.queue.specs.Views.{head_of, free, placed, taken, replanned, lacks_places, lacks_count};
 ghost use Rattle.model.specs.Machine.{blank, waiting, emptied, marked, with_queue};
 ghost use Rattle.model.specs.Controller.{armed};
-ghost use Rattle.parts.specs.Views.{post_view, rekilled};
+ghost use Rattle.parts.specs.Views.{rekilled};
 
 use contacts::kill::KillInputs;
 use queue::axis::{AxisQueue, Head};
 use queue::entry::Batch;
+use std::marker::Model;
 
 /// An axis's queue with its plan and its count, its kill inputs, and whether it is killed.
 #[derive(Drop)]
@@ -19,9 +20,17 @@ pub struct Post {
     killed: bool,
 }
 
+impl Model for Post {
+    ghost use Rattle.model.specs.Machine as M;
+
+    ghost Value = { M.Post };
+
+    ghost view = { λ p. record { queue = p.queue; kills = p.kills; killed = p.killed } };
+}
+
 impl Post {
     pub fn new() -> Post
-        ensures { post_view result ≡ blank }
+        ensures { result ≡ blank }
     {
         Post {
             queue: AxisQueue::new(),
@@ -32,16 +41,16 @@ impl Post {
 
     /// Neither an entry nor a plan is left; tells how many entries were dropped.
     pub fn clear(&mut self) -> usize
-        ensures says { result ≡ length (waiting (post_view self.old)) }
-        ensures does { post_view self.new ≡ emptied (post_view self.old) }
+        ensures says { result ≡ length (waiting self.old) }
+        ensures does { self.new ≡ emptied self.old }
     {
         self.queue.clear()
     }
 
     /// As cleared, and killed.
     pub fn kill(&mut self) -> usize
-        ensures says { result ≡ length (waiting (post_view self.old)) }
-        ensures does { post_view self.new ≡ marked true (emptied (post_view self.old)) }
+        ensures says { result ≡ length (waiting self.old) }
+        ensures does { self.new ≡ marked true (emptied self.old) }
     {
         let dropped = self.clear();
         self.killed = true;
@@ -50,67 +59,67 @@ impl Post {
 
     /// Killed no longer.
     pub fn free(&mut self)
-        ensures { post_view self.new ≡ marked false (post_view self.old) }
+        ensures { self.new ≡ marked false self.old }
     {
         self.killed = false;
     }
 
     /// For arming under a word: nothing waits, entries are counted from the start again, and the axis is killed where the word hits it.
     pub fn arm(&mut self, word: u16)
-        ensures { post_view self.new ≡ armed word (post_view self.old) }
+        ensures { self.new ≡ armed word self.old }
     {
         self.queue.rearm();
         self.killed = self.kills.is_hit(word);
     }
 
     pub fn kills(&self) -> KillInputs
-        ensures { result ≡ (post_view self.now).kills }
+        ensures { result ≡ self.now.kills }
     {
         self.kills
     }
 
     pub fn set_kills(&mut self, kills: KillInputs)
-        ensures { post_view self.new ≡ rekilled (post_view self.old) kills }
+        ensures { self.new ≡ rekilled self.old kills }
     {
         self.kills = kills;
     }
 
     pub fn is_killed(&self) -> bool
-        ensures { result ≡ (post_view self.now).killed }
+        ensures { result ≡ self.now.killed }
     {
         self.killed
     }
 
     /// Whether a kill input stands at its kill level in the word.
     pub fn is_hit(&self, word: u16) -> bool
-        ensures { result ≡ hit (post_view self.now).kills word }
+        ensures { result ≡ hit self.now.kills word }
     {
         self.kills.is_hit(word)
     }
 
     /// The entry that is executed next.
     pub fn head(&self) -> Option<Head>
-        ensures says { result ≡ head_of (post_view self.now).queue }
+        ensures says { result ≡ head_of self.now.queue }
         ensures ranged { IfSome result (λ h. InRange h.entry.operand) }
     {
         self.queue.head()
     }
 
     pub fn plan(&self) -> Option<i64>
-        ensures { result ≡ (post_view self.now).queue.plan }
+        ensures { result ≡ self.now.queue.plan }
     {
         self.queue.plan()
     }
 
     pub fn free_places(&self) -> usize
-        ensures { result ≡ free (post_view self.now).queue }
+        ensures { result ≡ free self.now.queue }
     {
         self.queue.free_places()
     }
 
     /// The head leaves the queue, and the plan becomes `plan`.
     pub fn step(&mut self, plan: Option<i64>)
-        ensures { post_view self.new ≡ with_queue (post_view self.old) (replanned (taken (post_view self.old).queue) plan) }
+        ensures { self.new ≡ with_queue self.old (replanned (taken self.old.queue) plan) }
     {
         let _ = self.queue.take();
         self.queue.set_plan(plan);
@@ -118,19 +127,19 @@ impl Post {
 
     /// Places the batch, where it finds room.
     pub fn place(&mut self, batch: Batch)
-        ensures { post_view self.new ≡ with_queue (post_view self.old) (placed (post_view self.old).queue batch) }
+        ensures { self.new ≡ with_queue self.old (placed self.old.queue batch) }
     {
         let _ = self.queue.place(batch);
     }
 
     pub fn lacks_places(&self, batch: Batch) -> bool
-        ensures { result ≡ lacks_places (post_view self.now).queue batch }
+        ensures { result ≡ lacks_places self.now.queue batch }
     {
         self.queue.lacks_places(batch)
     }
 
     pub fn lacks_count(&self, batch: Batch) -> bool
-        ensures { result ≡ lacks_count (post_view self.now).queue batch }
+        ensures { result ≡ lacks_count self.now.queue batch }
     {
         self.queue.lacks_count(batch)
     }

@@ -5,7 +5,7 @@ ghost use Rattle.model.specs.Machine.{judge, judged};
 ghost use Rattle.parts.specs.Views.{machine_view, part};
 
 use super::Machine;
-use crate::rows;
+use crate::rows::{self, Kind};
 use drive::axis::Axis;
 use drive::motion::Drive;
 use model::row::Row;
@@ -17,12 +17,12 @@ impl<D: Drive> Machine<D> {
     {
         match (killed, hit) {
             (false, true) => {
-                let dropped = self.posts.kill(axis);
+                let dropped = self.posts[axis.index()].kill();
                 self.drive.halt(axis);
-                rows::by_sample(dropped)
+                rows::counted(Kind::BySample, dropped)
             }
             (true, false) => {
-                self.posts.free(axis);
+                self.posts[axis.index()].free();
                 rows::NOTHING
             }
             (false, false) | (true, true) => rows::NOTHING,
@@ -30,6 +30,7 @@ impl<D: Drive> Machine<D> {
     }
 
     /// The sampled word for one axis: it is killed, is killed no longer, or neither.
+    #[tactic(auto, unfolding(model::specs::Machine::judged))]
     pub(super) fn judge(&mut self, axis: Axis, word: u16) -> Row
         ensures { part D.Drive.state self.new result ≡ judged D.Drive.ops word (index axis) (machine_view D.Drive.state self.old) }
     {

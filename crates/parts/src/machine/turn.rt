@@ -5,11 +5,11 @@ ghost use Rattle.drive.specs.Drive.{reply};
 ghost use Rattle.queue.specs.Entries.{InRange, effect};
 ghost use Rattle.queue.specs.Views.{head_of};
 ghost use Rattle.model.specs.Machine.{at, aim, held, driven, runs, perform, turn};
-ghost use Rattle.parts.specs.Turns.{goes, answered};
+ghost use Rattle.parts.specs.Turns.{executing, goes, answered};
 ghost use Rattle.parts.specs.Views.{machine_view, part};
 
 use super::Machine;
-use crate::rows;
+use crate::rows::{self, Kind};
 use contacts::word::{Contact, bit, with_bit};
 use drive::axis::Axis;
 use drive::motion::{Decline, Drive};
@@ -54,15 +54,27 @@ impl<D: Drive> Machine<D> {
             Code::Bh | Code::Bl | Code::Sw | Code::Bw | Code::Ws => self.post(axis).plan(),
         }
     }
+
+    /// The head leaves the queue, and the plan becomes `plan`.
+    // The head goes from call to call with its axis: read again, it would be an `Option` whose None cannot come.
+    #[tactic(auto, using(crate::proofs::Branches::serial_of))]
+    fn execute(&mut self, axis: Axis, head: Head, plan: Option<i64>) -> Row
+        requires { head_of (at (index axis) (machine_view D.Drive.state self.old)).queue ≡ Some head }
+        ensures { part D.Drive.state self.new result ≡ executing D.Drive.ops (index axis) (machine_view D.Drive.state self.old) plan head.entry }
+    {
+        self.posts[axis.index()].step(plan);
+        rows::executed(head)
+    }
+
     /// The head is executed, and begins no motion.
+    #[tactic(auto, unfolding(model::specs::Machine::perform))]
     fn run(&mut self, axis: Axis, head: Head) -> Row
         requires { (head_of (at (index axis) (machine_view D.Drive.state self.old)).queue ≡ Some head) × (InRange head.entry.operand) }
         ensures { part D.Drive.state self.new result ≡ perform D.Drive.ops (index axis) (machine_view D.Drive.state self.old) (runs head.entry) }
     {
         let plan = self.plan_after(axis, head.entry);
-        self.posts.step(axis, plan);
         self.output = output_after(self.output, head.entry);
-        rows::executed(head)
+        self.execute(axis, head, plan)
     }
 
     /// The head is GO, and there is a plan.
@@ -71,12 +83,9 @@ impl<D: Drive> Machine<D> {
         ensures { part D.Drive.state self.new result ≡ perform D.Drive.ops (index axis) (machine_view D.Drive.state self.old) (answered head.entry target (reply D.Drive.ops (D.Drive.state self.old.drive) (index axis) target)) }
     {
         match self.drive.begin(axis, target) {
-            Ok(()) => {
-                self.posts.step(axis, None);
-                rows::executed(head)
-            }
+            Ok(()) => self.execute(axis, head, None),
             Err(Decline::Down) => rows::DRIVE_DOWN,
-            Err(Decline::Reach) => rows::by_reach(self.clear(axis, true)),
+            Err(Decline::Reach) => rows::counted(Kind::ByReach, self.clear(axis, true)),
         }
     }
 

@@ -1,20 +1,70 @@
-use Rattle.std.proofs.Common.{sym, ap}
-use Rattle.model.specs.Controller.{obey}
+use Rattle.std.proofs.Common.{[], ◌∷◌, ◌++◌, Ok, sym, ap, ◌∙◌, le_trans, arith}
+use Rattle.text.proofs.Storing.{over_fits}
+use Rattle.command.specs.Requests.{batch_on}
+use Rattle.model.specs.Controller.{live, erring, addressed, all_parts, place_unless, obey}
+use Rattle.controller.specs.declared.states.Live.{Live}
 use Rattle.controller.specs.Views.{live_view}
-use Rattle.controller.proofs.Calls.{did_by, placing_is, clearing_is}
+use Rattle.controller.proofs.Calls.{did_by, blank_is, placing_is, clearing_is}
+use Rattle.controller.proofs.Shorts.{figures_short, position_small, places_small}
 use Rattle.controller.proofs.states.Live.obey.Goals as goal
+use Rattle.controller.proofs.states.Live.obey.Goals.{in-Select, in-Place+in_ok-admits-in-Place, in-Clear, in-Positions, in-Places, in-ErrorRecord}
 
-pub returns-in-Select : goal.returns-in-Select
-returns-in-Select g c =
+pub returns : goal.returns
+returns g c =
+    let o = g.D.Drive.ops in
     let l = live_view g.D.Drive.state c.args.self.now in
-    did_by (ap (obey g.D.Drive.ops l c.args.command.last) (sym c.in-Select.is)) (c.select.ensures c.args.answer.now)
-
-pub returns-in-Place : goal.returns-in-Place
-returns-in-Place g c =
-    let l = live_view g.D.Drive.state c.args.self.now in
-    did_by (placing_is g.D.Drive.ops l c.args.command.last c.args.command.request _ _ _ c.in-Place.is) (c.place.ensures c.args.answer.now)
-
-pub returns-in-Clear : goal.returns-in-Clear
-returns-in-Clear g c =
-    let l = live_view g.D.Drive.state c.args.self.now in
-    did_by (clearing_is g.D.Drive.ops l c.args.command.last c.args.command.request _ _ c.in-Clear.is) (c.clear.ensures c.args.answer.now)
+    let last = c.args.command.last in
+    let request = c.args.command.request in
+    let k = addressed l l.selection last in
+    let left = λ (s : Live g.row.D.Denot). live (addressed (live_view g.D.Drive.state s) s.selection last) in
+    elim c.match-request.branch [
+      | in-Select w ↦ record {
+        does = did_by (ap (obey o l last) (sym w.in-Select.is)) (record { now = ap left w.self-is; says = ap Ok w.len-is; rows = w.sheet-is ∙ blank_is; answer = w.answer-is });
+        fits = omega arith;
+      }
+      | in-Place+in_ok-admits-in-Place w ↦ record {
+        does = did_by (ap (all_parts k) w.place_all.ensures ∙ ap (place_unless o l k (batch_on request)) w.in_ok-admits-in-Place.ensures ∙ placing_is o l last request _ _ _ w.in-Place.is)
+            (record { now = ap left w.self-is; says = ap Ok w.len-is; rows = w.sheet-is; answer = w.answer-is });
+        fits = omega arith;
+      }
+      | in-Clear w ↦ record {
+        does = did_by (clearing_is o l last request _ _ w.in-Clear.is) (record {
+          now = ap left w.self-is ∙ ap (λ v. live (addressed v v.selection last)) w.clear.ensures.does;
+          says = ap Ok w.len-is;
+          rows = w.sheet-is ∙ w.clear.ensures.rows;
+          answer = w.answer-is;
+        });
+        fits = omega arith;
+      }
+      | in-Positions w ↦
+          let short = figures_short _ (position_small o l.machine g.met.D.Drive.keeps) w.in-Positions.of in
+          record {
+            does = did_by (ap (obey o l last) (sym w.in-Positions.is)) (record {
+              now = ap left w.self-is;
+              says = ap Ok (w.len-is ∙ w.write_positions-len.ensures.len);
+              rows = w.sheet-is ∙ blank_is;
+              answer = w.answer-is ∙ w.write_positions-len.ensures.block ∙ over_fits _ c.args.answer.now (le_trans short (omega arith));
+            });
+            fits = omega (arith, short, w.write_positions-len.ensures.len);
+          }
+      | in-Places w ↦
+          let short = figures_short _ (places_small o l.machine) w.in-Places.of in
+          record {
+            does = did_by (ap (obey o l last) (sym w.in-Places.is)) (record {
+              now = ap left w.self-is;
+              says = ap Ok (w.len-is ∙ w.write_places-len.ensures.len);
+              rows = w.sheet-is ∙ blank_is;
+              answer = w.answer-is ∙ w.write_places-len.ensures.block ∙ over_fits _ c.args.answer.now (le_trans short (omega arith));
+            });
+            fits = omega (arith, short, w.write_places-len.ensures.len);
+          }
+      | in-ErrorRecord w ↦ record {
+        does = did_by (ap (obey o l last) (sym w.in-ErrorRecord.is)) (record {
+          now = ap left w.self-is ∙ ap (λ bs. live (erring k bs)) w.clear-in-ErrorRecord.ensures;
+          says = ap Ok (w.len-is ∙ w.write-len.ensures.len);
+          rows = w.sheet-is ∙ blank_is;
+          answer = w.answer-is ∙ w.write-len.ensures.block ∙ over_fits (c.args.self.now.errors ++ (10 ∷ [])) c.args.answer.now (omega arith);
+        });
+        fits = omega arith;
+      }
+    ]

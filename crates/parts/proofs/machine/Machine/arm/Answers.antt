@@ -1,0 +1,9 @@
+use Rattle.std.proofs.Common.{set, sym, ap, ◌∙◌, arith}
+use Rattle.std.proofs.lemmas.List.Edits.{map_over_more}
+use Rattle.model.specs.Controller.{armed}
+use Rattle.parts.proofs.machine.Machine.arm.Goals as goal
+
+pub loop-post-preserved : goal.loop-post-preserved
+loop-post-preserved g c =
+    ap (set c.loop-post.post-items c.loop-post.post-index) (c.arm.ensures ∙ ap (armed c.args.word) (sym c.post-item.is))
+    ∙ map_over_more (armed c.args.word) c.args.self.now.posts _ _ c.post-item.result (omega arith) c.loop-post.invariant c.post-item.is
