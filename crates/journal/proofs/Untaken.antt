@@ -1,12 +1,16 @@
 -- A vector that was lent whole, and calls that the state does not take.
-use Rattle.std.proofs.Common.{◌≡◌, ℕ, List, ◌++◌, length, take, ℤ, Vec, refl, ◌∙◌, arith}
+use Rattle.std.proofs.Common.{◌≡◌, ℕ, List, ◌++◌, length, take, ℤ, Result, Vec, refl, ap, ◌∙◌, arith}
 use Rattle.std.specs.declared.alloc.Global.{Global}
 use Rattle.std.proofs.lemmas.List.{take-append-le, take_all}
 use Rattle.drive.specs.declared.health.Health.{Health}
 use Rattle.drive.specs.Drive.{Ops}
 use Rattle.command.specs.declared.request.Port.{Port}
+use Rattle.model.specs.declared.refusal.Refusal.{Refusal}
 use Rattle.model.specs.declared.row.Row.{Row}
 use Rattle.model.specs.Controller as C
+use Rattle.model.specs.Seen.{of_sheet}
+use Rattle.controller.specs.Replies.{Took}
+use Rattle.controller.proofs.Told.{Mute, rowed_all}
 use Rattle.journal.specs.declared.calls.Call.{Call}
 use Rattle.journal.specs.declared.calls.Call.TheVariants.{Set, Arm, Command, Sample, Step, Park}
 use Rattle.journal.specs.Views.{call_view}
@@ -14,6 +18,10 @@ use Rattle.journal.specs.Views.{call_view}
 -- what a vector holds once all of it was lent and written
 pub relent : {A : Type 0} (n : ℕ) (xs ys : List A) → length xs ≡ n → take n (xs ++ ys) ≡ xs
 relent n xs ys h = take-append-le n xs ys (omega arith) ∙ take_all n xs (omega arith)
+
+-- a sample or a step, `f` of its sheet, that was lent all of the sheet
+pub rowed_whole : {S : Type 0} (f : List Row → C.After S) {c : C.Controller S} {t : C.Outcome} {r : Result (Unit {0}) Refusal} (n : ℕ) (rest : List Row) {lent sheet left : List Row} → lent ≡ sheet → Mute (f lent).outcome → Took (f lent) c r lent left → length left ≡ n → t ≡ of_sheet r (take n (left ++ rest)) → C.after c t ≡ f sheet
+rowed_whole f {r = r} n rest same mute took all is = rowed_all _ mute took (is ∙ ap (of_sheet r) (relent n _ _ all)) ∙ ap f same
 
 -- ---- calls that the state does not take
 

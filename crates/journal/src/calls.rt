@@ -1,4 +1,5 @@
 //! A call with all that a host hands over, and what it tells.
+//! No `impl Model` for either: an enum cannot have one.
 use command::request::Port;
 use drive::axis::AXES;
 use drive::health::Health;

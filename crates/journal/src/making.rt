@@ -30,27 +30,10 @@ fn settled_by(reply: Result<(), Refusal>) -> Outcome
     }
 }
 
-/// What a sample or a step told.
-fn rowed_by(reply: Result<(), Refusal>, sheet: Vec<Row>) -> Outcome
-    ensures { outcome_view result ≡ of_sheet reply sheet.items }
-{
-    match reply {
-        Ok(()) => {
-            let answer = Vec::new(*sheet.allocator());
-            Outcome::Told {
-                rows: sheet,
-                answer,
-            }
-        }
-        Err(refusal) => Outcome::Refused(refusal),
-    }
-}
-
 /// What a command told.
-fn told_by(reply: Result<usize, Refusal>, sheet: Vec<Row>, answer: Vec<u8>) -> Outcome
+fn told_by(reply: Result<usize, Refusal>, sheet: Vec<Row>, mut answer: Vec<u8>) -> Outcome
     ensures { outcome_view result ≡ of_command reply sheet.items answer.items }
 {
-    let mut answer = answer;
     match reply {
         Ok(len) => {
             answer.truncate(len);
@@ -63,10 +46,17 @@ fn told_by(reply: Result<usize, Refusal>, sheet: Vec<Row>, answer: Vec<u8>) -> O
     }
 }
 
-fn on_parked<D: Drive>(parked: Parked<D>, call: Call) -> (State<D>, Outcome)
+/// What a sample or a step told: rows, and no answer.
+fn rowed_by(reply: Result<(), Refusal>, sheet: Vec<Row>) -> Outcome
+    ensures { outcome_view result ≡ of_sheet reply sheet.items }
+{
+    let no_answer = Vec::new(*sheet.allocator());
+    told_by(reply.map(|()| 0), sheet, no_answer)
+}
+
+fn on_parked<D: Drive>(mut parked: Parked<D>, call: Call) -> (State<D>, Outcome)
     ensures { after_view D.Drive.state result.0 result.1 ≡ on_parked D.Drive.state D.Drive.ops parked (call_view call) }
 {
-    let mut parked = parked;
     match call {
         Call::Set(text) => {
             let outcome = settled_by(parked.set(text.as_slice()));
@@ -78,40 +68,33 @@ fn on_parked<D: Drive>(parked: Parked<D>, call: Call) -> (State<D>, Outcome)
 }
 
 fn command<D: Drive>(
-    live: Live<D>,
+    mut live: Live<D>,
     port: Port,
     text: &[u8],
-    sheet: Vec<Row>,
-    answer: Vec<u8>,
+    mut sheet: Vec<Row>,
+    mut answer: Vec<u8>,
 ) -> (State<D>, Outcome)
     ensures { after_view D.Drive.state result.0 result.1 ≡ on_live D.Drive.state D.Drive.ops live (C.command port text.now sheet.items answer.items) }
 {
-    let mut live = live;
-    let mut sheet = sheet;
-    let mut answer = answer;
     let reply = live.command(port, text, sheet.as_mut_slice(), answer.as_mut_slice());
     (State::Live(live), told_by(reply, sheet, answer))
 }
 
-fn sample<D: Drive>(live: Live<D>, word: u16, sheet: Vec<Row>) -> (State<D>, Outcome)
+fn sample<D: Drive>(mut live: Live<D>, word: u16, mut sheet: Vec<Row>) -> (State<D>, Outcome)
     ensures { after_view D.Drive.state result.0 result.1 ≡ on_live D.Drive.state D.Drive.ops live (C.sample word sheet.items) }
 {
-    let mut live = live;
-    let mut sheet = sheet;
     let reply = live.sample(word, sheet.as_mut_slice());
     (State::Live(live), rowed_by(reply, sheet))
 }
 
 fn step<D: Drive>(
-    live: Live<D>,
+    mut live: Live<D>,
     readings: &[i64],
     health: Health,
-    sheet: Vec<Row>,
+    mut sheet: Vec<Row>,
 ) -> (State<D>, Outcome)
     ensures { after_view D.Drive.state result.0 result.1 ≡ on_live D.Drive.state D.Drive.ops live (C.step readings.now health sheet.items) }
 {
-    let mut live = live;
-    let mut sheet = sheet;
     let reply = live.step(readings, health, sheet.as_mut_slice());
     (State::Live(live), rowed_by(reply, sheet))
 }

@@ -1,3 +1,2 @@
-mod Fronts
 mod Digits
-mod Adding
+mod Rows

@@ -6,6 +6,7 @@ use crate::hex::read_word;
 use command::request::Port;
 
 /// What a line asks for.
+// No `impl Model`: an enum cannot have one.
 #[derive(Clone, Copy)]
 pub enum Line<'a> {
     /// A text that comes in by a port.

@@ -1,13 +1,12 @@
 //! What is printed of the outcome of a call.
-ghost use Rattle.std.specs.Prelude.{◌≡◌, ◌++◌, map, take, codes};
+ghost use Rattle.std.specs.Prelude.{◌++◌, codes};
 ghost use Rattle.text.specs.Writing.{digits};
 ghost use Rattle.model.specs.Refusals.{noticed};
 ghost use Rattle.model.specs.Controller.{dropped_all};
 ghost use Rattle.listing.specs.Writing.{Adds};
 ghost use Rattle.model.specs.Seen.{of_command, of_sheet, of_set};
-ghost use Rattle.listing.specs.Printing.{ending, row_line, row_of, row_lines, answer_line, notice_line, printed};
+ghost use Rattle.listing.specs.Printing.{row_line, row_lines, answer_line, notice_line, printed};
 
-use crate::put::put;
 use command::request::Notice;
 use drive::axis::Axis;
 use model::refusal::Refusal;
@@ -15,6 +14,8 @@ use model::row::Row;
 use std::alloc::AllocError;
 
 /// The axis's letter and the row's numbers; nothing of a row of kind 0.
+// `write!` to a `Vec<u8>` answers an `io::Error`, so each line is made by `format!` and then added.
+// Adding takes one line: a function of its own, with its clause, would be longer than the five.
 fn print_row(out: &mut Vec<u8>, axis: Axis, row: Row) -> Result<(), AllocError>
     ensures { Adds result out.old out.new (row_line axis row) }
 {
@@ -28,39 +29,18 @@ fn print_row(out: &mut Vec<u8>, axis: Axis, row: Row) -> Result<(), AllocError>
     if kind == 0 {
         return Ok(());
     }
-    let numbers = format!(in *out.allocator(); " {kind} {count} {serial} {code} {operand}\n")?;
-    put(out, &[axis.letter()], numbers.as_bytes())
+    let line = format!(in *out.allocator(); "{axis} {kind} {count} {serial} {code} {operand}\n")?;
+    out.extend_from_slice(line.as_bytes())
 }
 
-/// An axis's row of a sheet, if the sheet has it.
-fn print_row_of(out: &mut Vec<u8>, sheet: &[Row], axis: Axis) -> Result<(), AllocError>
-    ensures { Adds result out.old out.new (row_of sheet.now axis) }
-{
-    match sheet.get(axis.index()) {
-        Some(row) => print_row(out, axis, *row),
-        None => Ok(()),
-    }
-}
-
-/// The rows of the axes, in order.
+/// The rows of the axes, in order; nothing of one that the sheet has not.
 fn print_rows(out: &mut Vec<u8>, sheet: &[Row]) -> Result<(), AllocError>
     ensures { Adds result out.old out.new (row_lines sheet.now) }
 {
-    for axis in Axis::ALL {
-        print_row_of(out, sheet, axis)?;
+    for (axis, row) in Axis::ALL.iter().zip(sheet) {
+        print_row(out, *axis, *row)?;
     }
     Ok(())
-}
-
-/// The first bytes of a block, or all of them where there are no more.
-fn front(block: &[u8], len: usize) -> &[u8]
-    ensures { result.now ≡ take len block.now }
-{
-    if len < block.len() {
-        &block[0..len]
-    } else {
-        block
-    }
 }
 
 /// Nothing where there is no answer.
@@ -70,7 +50,8 @@ fn print_answer(out: &mut Vec<u8>, answer: &[u8]) -> Result<(), AllocError>
     if answer.is_empty() {
         return Ok(());
     }
-    put(out, b"= ", answer)
+    out.extend_from_slice(b"= ")?;
+    out.extend_from_slice(answer)
 }
 
 fn print_refusal(out: &mut Vec<u8>, refusal: Refusal) -> Result<(), AllocError>
@@ -82,28 +63,18 @@ fn print_refusal(out: &mut Vec<u8>, refusal: Refusal) -> Result<(), AllocError>
         axis,
     } = refusal.notice();
     let line = format!(in *out.allocator(); "! {number} {place} {axis}\n")?;
-    out.extend_from_slice(line.as_bytes())?;
-    Ok(())
+    out.extend_from_slice(line.as_bytes())
 }
 
+/// A space, and the number.
 fn print_count(out: &mut Vec<u8>, count: usize) -> Result<(), AllocError>
     ensures { Adds result out.old out.new (codes " " ++ digits count) }
 {
     let word = format!(in *out.allocator(); " {count}")?;
-    out.extend_from_slice(word.as_bytes())?;
-    Ok(())
+    out.extend_from_slice(word.as_bytes())
 }
 
-/// Numbers with a space before each, and a line feed.
-fn print_counts(out: &mut Vec<u8>, counts: &[usize]) -> Result<(), AllocError>
-    ensures { Adds result out.old out.new (ending (map digits counts.now)) }
-{
-    for count in counts {
-        print_count(out, *count)?;
-    }
-    out.push(b'\n')?;
-    Ok(())
-}
+// The next three each match on the reply: a shared function would take a closure for `Ok`, and be longer.
 
 /// Of a Command: it returns how many bytes of its block are the answer.
 pub fn print_command(
@@ -117,7 +88,7 @@ pub fn print_command(
     match reply {
         Ok(len) => {
             print_rows(out, sheet)?;
-            print_answer(out, front(block, len))
+            print_answer(out, block.get(..len).unwrap_or(block))
         }
         Err(refusal) => print_refusal(out, refusal),
     }
@@ -152,5 +123,9 @@ pub fn print_park(out: &mut Vec<u8>, dropped: &[usize]) -> Result<(), AllocError
     ensures { Adds result out.old out.new (printed (dropped_all dropped.now)) }
 {
     out.push(b'-')?;
-    print_counts(out, dropped)
+    for count in dropped {
+        print_count(out, *count)?;
+    }
+    out.push(b'\n')?;
+    Ok(())
 }

@@ -2,57 +2,48 @@
 ghost use Rattle.listing.specs.Writing.{Adds};
 ghost use Rattle.listing.specs.Shows.{word_line, axis_line, axis_lines, shown};
 
-use crate::hex::write_word;
-use crate::put::put;
 use drive::axis::{AXES, Axis};
 use std::alloc::AllocError;
 
+/// Where an axis is, and where it is going.
+#[derive(Clone, Copy, Debug, PartialEq, Eq)]
+pub struct Course {
+    pub position: i64,
+    pub target: i64,
+}
+
+// By `format!`, as `write!` to a `Vec<u8>` answers an `io::Error`.
 fn print_word(out: &mut Vec<u8>, word: u16) -> Result<(), AllocError>
     ensures { Adds result out.old out.new (word_line word) }
 {
-    let [a, b, c, d] = write_word(word);
-    put(out, b"word ", &[a, b, c, d, b'\n'])
+    let line = format!(in *out.allocator(); "word {word:04X}\n")?;
+    out.extend_from_slice(line.as_bytes())
 }
 
 /// The axis's letter, position and target.
-fn print_axis(
-    out: &mut Vec<u8>,
-    axis: Axis,
-    positions: &[i64; AXES],
-    targets: &[i64; AXES],
-) -> Result<(), AllocError>
-    ensures { Adds result out.old out.new (axis_line positions.now targets.now axis) }
+fn print_axis(out: &mut Vec<u8>, axis: Axis, course: Course) -> Result<(), AllocError>
+    ensures { Adds result out.old out.new (axis_line axis course) }
 {
-    let i = axis.index();
-    let position = positions[i];
-    let target = targets[i];
-    let numbers = format!(in *out.allocator(); " {position} {target}\n")?;
-    put(out, &[axis.letter()], numbers.as_bytes())
+    let Course { position, target } = course;
+    let line = format!(in *out.allocator(); "{axis} {position} {target}\n")?;
+    out.extend_from_slice(line.as_bytes())
 }
 
 /// The axes, in order.
-fn print_axes(
-    out: &mut Vec<u8>,
-    positions: &[i64; AXES],
-    targets: &[i64; AXES],
-) -> Result<(), AllocError>
-    ensures { Adds result out.old out.new (axis_lines positions.now targets.now) }
+// One loop for rows and courses would take the printer and clauses on it, and be longer.
+fn print_axes(out: &mut Vec<u8>, courses: &[Course; AXES]) -> Result<(), AllocError>
+    ensures { Adds result out.old out.new (axis_lines courses.now) }
 {
-    for axis in Axis::ALL {
-        print_axis(out, axis, positions, targets)?;
+    for (axis, course) in Axis::ALL.iter().zip(courses) {
+        print_axis(out, *axis, *course)?;
     }
     Ok(())
 }
 
 /// The output word, then each axis's position and target.
-pub fn print_show(
-    out: &mut Vec<u8>,
-    word: u16,
-    positions: &[i64; AXES],
-    targets: &[i64; AXES],
-) -> Result<(), AllocError>
-    ensures { Adds result out.old out.new (shown word positions.now targets.now) }
+pub fn print_show(out: &mut Vec<u8>, word: u16, courses: &[Course; AXES]) -> Result<(), AllocError>
+    ensures { Adds result out.old out.new (shown word courses.now) }
 {
     print_word(out, word)?;
-    print_axes(out, positions, targets)
+    print_axes(out, courses)
 }

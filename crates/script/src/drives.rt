@@ -6,13 +6,13 @@ use crate::numbers::{number_of, read_leading};
 use crate::words::after;
 
 /// A drive that stands over no other. All axes are alike.
-#[derive(Clone, Copy)]
+#[derive(Clone, Copy, Debug, PartialEq, Eq)]
 pub enum BaseDrive {
     Counting { rate: i64, start: i64 },
     Reporting { start: i64 },
 }
 
-#[derive(Clone, Copy)]
+#[derive(Clone, Copy, Debug, PartialEq, Eq)]
 pub enum DriveChoice {
     Base(BaseDrive),
     /// A ratio drive, with so many steps of the drive below to one count.

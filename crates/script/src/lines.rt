@@ -21,6 +21,7 @@ const MOST_ROWS: usize = 64;
 const MOST_BYTES: usize = 4096;
 
 /// What a line asks for.
+// No `impl Model`: an enum cannot have one.
 #[derive(Drop)]
 pub enum ScriptLine<'a> {
     /// A new controller over a drive.
@@ -47,10 +48,7 @@ pub enum ScriptLine<'a> {
 fn alone<'a>(line: ScriptLine<'a>, rest: &[u8]) -> Option<ScriptLine<'a>>
     ensures { asked result ≡ alone (asks line.entry) rest.now }
 {
-    match rest {
-        [] => Some(line),
-        _ => None,
-    }
+    rest.is_empty().then_some(line)
 }
 
 /// The lines that `axes` does not have, but for a step with readings.
@@ -96,16 +94,12 @@ fn read_step<'a>(heap: Global, text: &[u8]) -> Result<Option<ScriptLine<'a>>, Al
     let Some(bits) = read_byte(health) else {
         return Ok(None);
     };
-    match read_readings(heap, readings)? {
-        Some(readings) => Ok(Some(ScriptLine::Step {
-            health: Health { bits },
-            readings,
-        })),
-        None => Ok(None),
-    }
+    let health = Health { bits };
+    Ok(read_readings(heap, readings)?.map(|readings| ScriptLine::Step { health, readings }))
 }
 
 /// A reading of 0 for each axis.
+#[tactic(auto, unfolding(drive::specs::Axes::axes))]
 fn no_readings(heap: Global) -> Result<Vec<i64>, AllocError>
     ensures { IfOk result (λ v. v.items ≡ replicate axes (pos 0)) }
 {

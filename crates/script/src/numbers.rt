@@ -37,7 +37,7 @@ pub(crate) fn size_of(word: &[u8], most: usize) -> Option<usize>
         return None;
     }
     let size = number_of(word)?.unsigned_abs() as usize;
-    if size <= most { Some(size) } else { None }
+    (size <= most).then_some(size)
 }
 
 /// Numbers with single spaces between them.
@@ -45,16 +45,11 @@ pub(crate) fn read_numbers(heap: Global, text: &[u8]) -> Result<Option<Vec<i64>>
     ensures { IfOk result (λ o. option_map vec_items o ≡ numbers (words text.now)) }
 {
     let mut numbers = Vec::new(heap);
-    let mut left = text;
-    loop {
-        let (word, more) = split(left);
+    for word in text.split(|byte| *byte == b' ') {
         let Some(number) = number_of(word) else {
             return Ok(None);
         };
         numbers.push(number)?;
-        match more {
-            Some(rest) => left = rest,
-            None => return Ok(Some(numbers)),
-        }
     }
+    Ok(Some(numbers))
 }

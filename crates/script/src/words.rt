@@ -1,5 +1,5 @@
 //! The words of a line, with single spaces between them.
-ghost use Rattle.std.specs.Prelude.{◌≡◌};
+ghost use Rattle.std.specs.Prelude.{◌≡◌, ◌==◌, position};
 ghost use Rattle.std.specs.Option.{option_map};
 ghost use Rattle.listing.specs.Lines.{after};
 ghost use Rattle.script.specs.Words.{parted, Shorter};
@@ -11,15 +11,20 @@ pub(crate) fn after<'a>(line: &'a [u8], front: &[u8]) -> Option<&'a [u8]>
     line.strip_prefix(front)
 }
 
+/// Where the first space stands.
+fn space_in(text: &[u8]) -> Option<usize>
+    ensures { result ≡ position (λ b. b == 32) text.now }
+{
+    text.iter().position(|byte| *byte == b' ')
+}
+
 /// The first word, and what follows the space after it, if there is one.
 pub(crate) fn split(text: &[u8]) -> (&[u8], Option<&[u8]>)
     ensures value { (result.0.now, option_map (λ x. x.now) result.1) ≡ parted text.now }
     ensures shorter { Shorter (option_map (λ x. x.now) result.1) text.now }
 {
-    for (i, byte) in text.iter().enumerate() {
-        if *byte == b' ' {
-            return (&text[0..i], Some(&text[i + 1..]));
-        }
+    match space_in(text) {
+        Some(i) => (&text[..i], Some(&text[i + 1..])),
+        None => (text, None),
     }
-    (text, None)
 }

@@ -3,7 +3,6 @@
 
 mod alike;
 mod lines;
-mod making;
 mod printing;
 mod showing;
 

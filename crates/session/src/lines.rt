@@ -8,7 +8,7 @@ ghost use Rattle.session.specs.Prints.{Made};
 
 use crate::alike::each_axis;
 use crate::printing::{command, sample, step};
-use controller::Live;
+use controller::{ANSWER, Live};
 use drive::axis::AXES;
 use drive::health::Health;
 use drive::motion::Drive;
@@ -16,15 +16,14 @@ use listing::{Line, read_line};
 use model::row::Row;
 use std::alloc::AllocError;
 
-/// How many bytes of an answer block are lent.
-const ANSWER: usize = 192;
-
+#[tactic(auto, unfolding(drive::specs::Axes::axes))]
 fn blank_sheet() -> [Row; AXES]
     ensures { result ≡ C.no_rows }
 {
     [Row::NOTHING; AXES]
 }
 
+#[tactic(auto, unfolding(crate::specs::Lines::blank_block))]
 fn blank_block() -> [u8; ANSWER]
     ensures { result ≡ blank_block }
 {

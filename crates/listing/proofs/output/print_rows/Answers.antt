@@ -1,11 +1,11 @@
-use Rattle.std.proofs.Common.{vec_items, refl}
-use Rattle.std.specs.List.{flat_map}
-use Rattle.drive.specs.declared.axis.Axis.TheVariants.{X}
-use Rattle.drive.specs.Axes.{in_order}
-use Rattle.listing.specs.Printing.{row_of}
-use Rattle.listing.proofs.Adding.{item_added}
+use Rattle.std.proofs.Common.{◌++◌, vec_items, ap, ◌∙◌, ⊎_elim, inl, inr}
+use Rattle.listing.specs.Printing.{row_line}
+use Rattle.listing.proofs.Rows.{all_told, rows_are}
 use Rattle.listing.proofs.output.print_rows.Goals as goal
 
-pub loop-axis-preserved : goal.loop-axis-preserved
-loop-axis-preserved c =
-    item_added (flat_map (row_of c.args.sheet.now)) in_order _ X (vec_items c.loop-axis.out) _ c.loop-axis.axis-index c.loop-axis-test.true refl c.loop-axis.invariant c.in_ok-print_row_of.ensures
+pub returns : goal.returns
+returns c =
+    let left = c.loop-axis.axis-iterator in
+    let ends = ⊎_elim (λ a. inl a.1.0) (λ b. inr b.1.0) c.in-None.ensures.steps in
+    all_told row_line (vec_items c.loop-axis.out) (vec_items c.args.out.now) left.a.rest.now left.b.rest.now c.args.sheet.now ends c.loop-axis.invariant
+    ∙ ap (λ l. vec_items c.args.out.now ++ l) (rows_are c.args.sheet.now)

@@ -1,9 +1,9 @@
-use Rattle.std.proofs.Common.{vec_items}
-use Rattle.std.specs.List.{flat_map}
+use Rattle.std.proofs.Common.{◌≡◌, ◌++◌, vec_items}
 use Rattle.drive.specs.Axes.{in_order}
-use Rattle.listing.specs.Printing.{row_of}
-use Rattle.listing.proofs.Adding.{Left}
+use Rattle.listing.specs.Printing.{row_line}
+use Rattle.listing.proofs.Rows.{lines_of}
 use Rattle.listing.proofs.output.print_rows.Given as goal
 
 abbrev pub invariant-loop-axis : goal.invariant-loop-axis
-invariant-loop-axis l = Left (flat_map (row_of l.sheet)) in_order (vec_items l.initial.out) (vec_items l.out) l.axis-index
+invariant-loop-axis l =
+    vec_items l.out ++ lines_of row_line l.axis-iterator.a.rest.now l.axis-iterator.b.rest.now ≡ vec_items l.initial.out ++ lines_of row_line in_order l.sheet

@@ -1,11 +1,11 @@
-use Rattle.std.proofs.Common.{vec_items, refl}
-use Rattle.std.specs.List.{flat_map}
-use Rattle.drive.specs.declared.axis.Axis.TheVariants.{X}
-use Rattle.drive.specs.Axes.{in_order}
+use Rattle.std.proofs.Common.{◌++◌, vec_items, ap, ◌∙◌, ⊎_elim, inl, inr, arith}
 use Rattle.listing.specs.Shows.{axis_line}
-use Rattle.listing.proofs.Adding.{item_added}
+use Rattle.listing.proofs.Rows.{all_told, axes_are}
 use Rattle.listing.proofs.show.print_axes.Goals as goal
 
-pub loop-axis-preserved : goal.loop-axis-preserved
-loop-axis-preserved c =
-    item_added (flat_map (axis_line c.args.positions.now c.args.targets.now)) in_order _ X (vec_items c.loop-axis.out) _ c.loop-axis.axis-index c.loop-axis-test.true refl c.loop-axis.invariant c.in_ok-print_axis.ensures
+pub returns : goal.returns
+returns c =
+    let left = c.loop-axis.axis-iterator in
+    let ends = ⊎_elim (λ a. inl a.1.0) (λ b. inr b.1.0) c.in-None.ensures.steps in
+    all_told axis_line (vec_items c.loop-axis.out) (vec_items c.args.out.now) left.a.rest.now left.b.rest.now c.args.courses.now ends c.loop-axis.invariant
+    ∙ ap (λ l. vec_items c.args.out.now ++ l) (axes_are c.args.courses.now (omega arith))

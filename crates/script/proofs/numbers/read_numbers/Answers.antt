@@ -1,19 +1,20 @@
-use Rattle.std.proofs.Common.{◌≡◌, [], ◌∷◌, ◌++◌, Some, vec_items, ap, ◌∙◌, rules}
-use Rattle.std.specs.Option.{option_map}
-use Rattle.script.proofs.Reading.{none_read, one_read, last_read}
+use Rattle.std.proofs.Common.{eqb, rules}
+use Rattle.std.proofs.lemmas.Iterator.Splits.{YieldsList-from_slice_split}
+use Rattle.script.proofs.Reading.{begun, none_read, one_read, all_read}
 use Rattle.script.proofs.numbers.read_numbers.Goals as goal
+
+pub loop-word-init : goal.loop-word-init
+loop-word-init c =
+    let text = c.args.text.now in
+    begun _ text _ c.new-numbers.ensures.items (YieldsList-from_slice_split _ (λ b. eqb b 32) text (search rules) (search rules) (search rules) (λ x b q k. (search rules, search rules))).runs
 
 pub returns-in_default : goal.returns-in_default
 returns-in_default c =
-    none_read c.args.text.now c.loop-number.left.now (vec_items c.loop-number.numbers) c.loop-number.invariant _ _ c.split.ensures.value c.in_default.ensures
+    none_read _ _ {t = c.next.new.self} c.loop-word.invariant c.in-Some.word c.in-Some.ensures.steps c.in_default.ensures
 
-pub loop-number-preserved : goal.loop-number-preserved
-loop-number-preserved c =
-    one_read c.args.text.now c.loop-number.left.now (vec_items c.loop-number.numbers) c.loop-number.invariant _ _ c.split.ensures.value c.in-Some.number c.in-Some-more.rest.now c.in-Some.ensures (ap (option_map (λ x. x.now)) c.in-Some-more.is) (search rules)
+pub loop-word-preserved : goal.loop-word-preserved
+loop-word-preserved c =
+    one_read _ _ {t = c.next.new.self} c.loop-word.invariant c.in-Some.word c.in-Some.ensures.steps c.in-Some-number_of.number c.in-Some-number_of.ensures (search rules)
 
-pub returns-in-None : goal.returns-in-None
-returns-in-None c =
-    let numbers = vec_items c.loop-number.numbers in
-    let on : vec_items c.push.new.self ≡ numbers ++ (c.in-Some.number ∷ []) = search rules in
-    ap Some on
-    ∙ last_read c.args.text.now c.loop-number.left.now numbers c.loop-number.invariant _ _ c.split.ensures.value c.in-Some.number c.in-Some.ensures (ap (option_map (λ x. x.now)) c.in-None.is)
+pub returns : goal.returns
+returns c = all_read _ _ {t = c.next.new.self} c.loop-word.invariant c.in-None.ensures.steps

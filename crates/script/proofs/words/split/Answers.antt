@@ -1,18 +1,15 @@
-use Rattle.std.proofs.Common.{refl, arith, rules}
+use Rattle.std.proofs.Common.{◌<◌, length, sym, arith}
 use Rattle.std.proofs.lemmas.List.{take_rest, length-drop}
-use Rattle.script.proofs.Splitting.{word_more, word_ends, word_all}
+use Rattle.std.proofs.lemmas.List.Quantifiers.{position-Some}
+use Rattle.script.proofs.Splitting.{space, parted_at, parted_whole}
 use Rattle.script.proofs.words.split.Goals as goal
 
-pub loop-i-init : goal.loop-i-init
-loop-i-init c = refl
+pub returns-in-Some : goal.returns-in-Some
+returns-in-Some c =
+    let text = c.args.text.now in
+    let i = c.in-Some.i in
+    let within : i < length text = (position-Some space text i 0 (sym c.in-Some.ensures)).0 in
+    rw take_rest record { value = parted_at text i c.in-Some.ensures; shorter = simp length-drop (omega arith) }
 
-pub loop-i-preserved : goal.loop-i-preserved
-loop-i-preserved c = word_more c.args.text.now c.loop-i.i c.loop-i-test.true c.if-byte-eq32.false c.loop-i.invariant
-
-pub returns-then-byte-eq32 : goal.returns-then-byte-eq32
-returns-then-byte-eq32 c =
-    let e = word_ends c.args.text.now c.loop-i.i c.loop-i-test.true c.if-byte-eq32.true c.loop-i.invariant in
-    rw take_rest record { value = search rules; shorter = simp length-drop (omega arith) }
-
-pub returns : goal.returns
-returns c = record { value = word_all c.args.text.now c.loop-i.i c.loop-i-test.false c.loop-i.invariant; shorter = tt }
+pub returns-in-None : goal.returns-in-None
+returns-in-None c = record { value = parted_whole c.args.text.now c.in-None.ensures; shorter = tt }

@@ -1,7 +1,0 @@
-use Rattle.listing.specs.Shows.{word_line, axis_lines}
-use Rattle.listing.proofs.Adding.{adds_more}
-use Rattle.listing.proofs.show.print_show.Goals as goal
-
-pub returns : goal.returns
-returns c =
-    adds_more c.print_axes.result c.args.out.now c.print_word.new.out c.print_axes.new.out (word_line c.args.word) (axis_lines c.args.positions.now c.args.targets.now) c.in_ok-print_word.ensures c.print_axes.ensures

@@ -1,9 +1,0 @@
-use Rattle.std.proofs.Common.{refl}
-use Rattle.controller.specs.Views.{live_view}
-use Rattle.controller.proofs.Told.{sample_mute, rowed_all}
-use Rattle.session.proofs.making.make_sample.Goals as goal
-
-pub returns : goal.returns
-returns g c =
-    let l = live_view g.D.Drive.state c.args.live.now in
-    rowed_all _ (sample_mute g.D.Drive.ops l c.args.word c.args.sheet.now) c.sample.ensures refl
