@@ -1,14 +1,12 @@
 //! Reads a block of texts from standard input, and prints what each of them asks for.
 #![tactic(auto)]
 
-use anyhow::anyhow;
+use anyhow::{Context, ensure};
 use explainer::{Reading, report};
 use std::env;
 use std::io::Read;
 
-fn wrong(rt: &HostRuntime, what: &str) -> anyhow::Result<Reading> {
-    Err(anyhow!("allowed arguments are p (port P), set (Set), or none (port M), and not {what}"))
-}
+const ALLOWED: &str = "allowed arguments are p (port P), set (Set), or none (port M)";
 
 /// The reading that the argument asks for: with none, port M's.
 fn choose(rt: &HostRuntime) -> anyhow::Result<Reading> {
@@ -16,13 +14,8 @@ fn choose(rt: &HostRuntime) -> anyhow::Result<Reading> {
     let Some(word) = words.next() else {
         return Ok(Reading::Mount);
     };
-    if words.next().is_some() {
-        return wrong(rt, "more than one");
-    }
-    match Reading::named(word.as_str()) {
-        Some(reading) => Ok(reading),
-        None => wrong(rt, word.as_str()),
-    }
+    ensure!(words.next().is_none(), "{ALLOWED}, and not more than one");
+    Reading::named(word.as_str()).context(format_args!("{ALLOWED}, and not {word}"))
 }
 
 fn run(rt: &HostRuntime) -> anyhow::Result<()> {

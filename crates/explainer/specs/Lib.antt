@@ -2,6 +2,4 @@ pub mod Writing
 pub mod Words
 pub mod Settings
 pub mod Readings
-pub mod Lines
-pub mod Tallies
 pub mod Reports

@@ -2,7 +2,8 @@
 use Rattle.std.specs.Prelude.{ℕ, zero, suc, ◌/◌, ◌%◌, Bool, cond, List, ◌++◌, codes, decimal, ◌==◌, unsigned_abs}
 use Rattle.text.specs.Decimals.{Fixed}
 use Rattle.drive.specs.declared.axis.Axis.{Axis}
-use Rattle.command.specs.Requests.{Change, select, units_on, units_off, kill_input, no_kill_inputs}
+use Rattle.command.specs.declared.request.Setting.{Setting}
+use Rattle.command.specs.declared.request.Setting.TheVariants.{Select, UnitsOn, UnitsOff, KillInput, NoKillInputs}
 use Rattle.explainer.specs.Words.{axis_word}
 
 -- digits with a point before the last `places` of them
@@ -22,9 +23,9 @@ abbrev pub set_words : Axis → List ℕ → List ℕ
 set_words a what = codes "set " ++ (axis_word a ++ (codes " " ++ what))
 
 -- what Set is asked for while it has this axis
-abbrev pub change_words : Axis → Change → List ℕ
-change_words a (select b) = codes "select " ++ axis_word b
-change_words a (units_on d) = set_words a (codes "units " ++ factor_words d)
-change_words a units_off = set_words a (codes "units off")
-change_words a (kill_input bit level) = set_words a (kill_words bit level)
-change_words a no_kill_inputs = set_words a (codes "no kill inputs")
+abbrev pub change_words : Axis → Setting → List ℕ
+change_words a (Select b) = codes "select " ++ axis_word b
+change_words a (UnitsOn d) = set_words a (codes "units " ++ factor_words d)
+change_words a UnitsOff = set_words a (codes "units off")
+change_words a (KillInput bit level) = set_words a (kill_words bit level)
+change_words a NoKillInputs = set_words a (codes "no kill inputs")

@@ -3,11 +3,9 @@ use Rattle.std.specs.Prelude.{ℕ, Bool, true, false, cond, List, [], ◌∷◌,
 use Rattle.std.specs.Fmt.{signed_decimal}
 use Rattle.drive.specs.declared.axis.Axis.{Axis}
 use Rattle.drive.specs.Axes.{index, letter, in_order}
-use Rattle.queue.specs.declared.entry.Code.{Code}
-use Rattle.queue.specs.declared.entry.Code.TheVariants.{Ma, Mr, Go, Bh, Bl, Sw, Bw, Ws}
 use Rattle.queue.specs.declared.entry.Entry.{Entry}
 use Rattle.queue.specs.declared.entry.Batch.{Batch}
-use Rattle.queue.specs.Entries.{takes}
+use Rattle.queue.specs.Entries.{code_letters, takes}
 use Rattle.command.specs.declared.request.Selection.{Selection}
 use Rattle.command.specs.declared.request.Selection.TheVariants.{One, All}
 use Rattle.command.specs.declared.request.Request.{Request}
@@ -22,16 +20,6 @@ abbrev pub selection_word : Selection → List ℕ
 selection_word (One a) = axis_word a
 selection_word All = codes "all"
 
-abbrev pub code_word : Code → List ℕ
-code_word Ma = codes "MA"
-code_word Mr = codes "MR"
-code_word Go = codes "GO"
-code_word Bh = codes "BH"
-code_word Bl = codes "BL"
-code_word Sw = codes "SW"
-code_word Bw = codes "BW"
-code_word Ws = codes "WS"
-
 abbrev pub halt_word : Bool → List ℕ
 halt_word true = codes " and halt"
 halt_word false = []
@@ -41,7 +29,7 @@ abbrev pub operand_word : Entry → List ℕ
 operand_word e = cond (takes e.code) (codes " " ++ signed_decimal e.operand) []
 
 abbrev pub entry_words : Axis → Entry → List ℕ
-entry_words a e = axis_word a ++ (codes " " ++ (code_word e.code ++ operand_word e))
+entry_words a e = axis_word a ++ (codes " " ++ (code_letters e.code ++ operand_word e))
 
 -- one phrase more in a list: a comma parts it from those before it
 abbrev pub comma : List ℕ → List ℕ
@@ -61,7 +49,7 @@ abbrev pub with_axis : Request → List ℕ → Axis → List ℕ
 with_axis r list a = fold with_phrase (fold with_phrase list (entered a (batch_on r (index a)))) (cleared a (clears_on r (index a)))
 
 -- what a request does to the axes, in order
-unfoldable pub listed : Request → List ℕ
+abbrev pub listed : Request → List ℕ
 listed r = fold (with_axis r) [] in_order
 
 -- what is told of the selected axes

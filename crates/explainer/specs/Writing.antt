@@ -1,11 +1,7 @@
 -- What a call writes.
-use Rattle.std.specs.Prelude.{◌≡◌, ℕ, List, ◌++◌, IfOk, vec_items, string_bytes, Result, Vec, String, OnOk}
+use Rattle.std.specs.Prelude.{◌≡◌, ℕ, List, IfOk, string_bytes, Result, String, OnOk}
 use Rattle.std.specs.declared.alloc.AllocError.{AllocError}
 use Rattle.std.specs.declared.alloc.Global.{Global}
-
--- where memory did not fail, the part was added at the end
-abbrev pub Adds : {T : Type 0} → Result T AllocError → Vec ℕ Global → Vec ℕ Global → List ℕ → Type 0
-Adds r before after part = OnOk r (vec_items after ≡ vec_items before ++ part)
 
 -- where memory did not fail, these words were made
 abbrev pub Says : Result (String Global) AllocError → List ℕ → Type 0

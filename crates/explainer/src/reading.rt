@@ -1,14 +1,15 @@
 //! Reads the texts of a block one after the other.
 ghost use Rattle.std.specs.Prelude.{◌≡◌, [], IfOk};
-ghost use Rattle.command.specs.Requests.{change};
+ghost use Rattle.reports.specs.Tellings.{Tells};
 ghost use Rattle.command.specs.Reading.{read, read_setting};
-ghost use Rattle.explainer.specs.Readings.{named, Tells, start, after_command, after_setting, refused, by_command, by_setting, told};
+ghost use Rattle.explainer.specs.Readings.{named, start, after_command, after_setting, by_command, by_setting, told};
 
 use crate::settings::setting_words;
-use crate::words::{refusal_words, request_words};
-use command::request::{Command, Context, Port, Refusal, Request, Selection, Setting};
+use crate::words::{refused, request_words};
+use command::request::{Command, Context, Port, Request, Selection, Setting};
 use command::{read, read_setting};
 use drive::axis::Axis;
+use reports::{Teller, Told};
 use std::alloc::{AllocError, Global};
 
 /// Whose texts a block holds: port M's, port P's or Set's.
@@ -21,6 +22,7 @@ pub enum Reading {
 
 impl Reading {
     /// The reading that a word names; port M's has no word.
+    // No `FromStr`: its error would say no more than None does.
     pub fn named(word: &str) -> Option<Self>
         ensures { result ≡ named word.now }
     {
@@ -32,118 +34,89 @@ impl Reading {
     }
 }
 
-/// What the texts before leave to the next: port M's selection, port P's last axis, and Set's own.
+/// Tells what each text of a block asks for. The texts before leave to the next port M's selection, port P's last axis, and
+/// Set's own.
 #[derive(Clone, Copy)]
-pub(crate) struct Carried {
+pub(crate) struct Explainer {
+    reading: Reading,
     selection: Selection,
     last: Axis,
     own: Axis,
 }
 
-/// What is told of a text, and what is carried along after it.
-#[derive(Drop)]
-pub(crate) struct Told {
-    pub(crate) words: String,
-    pub(crate) known: bool,
-    pub(crate) after: Carried,
-}
-
-impl Carried {
-    pub(crate) fn start() -> Self
-        ensures { result ≡ start }
+impl Explainer {
+    pub(crate) fn new(reading: Reading) -> Self
+        ensures { result ≡ start reading }
     {
-        Carried {
+        Explainer {
+            reading,
             selection: Selection::One(Axis::X),
             last: Axis::X,
             own: Axis::X,
         }
     }
 
-    fn after_command(self, command: &Command) -> Self
-        ensures { result ≡ after_command self command.now }
+    /// The command holds for the texts after it.
+    fn follow_command(&mut self, command: &Command)
+        ensures { self.new ≡ after_command self.old command.now }
     {
-        let selection = match command.request {
-            Request::Select(selection) => selection,
-            _ => self.selection,
-        };
-        Carried {
-            selection,
-            last: command.last,
-            own: self.own,
+        if let Request::Select(selection) = command.request {
+            self.selection = selection;
+        }
+        self.last = command.last;
+    }
+
+    /// The setting holds for the texts after it.
+    fn follow_setting(&mut self, setting: &Setting)
+        ensures { self.new ≡ after_setting self.old setting.now }
+    {
+        if let Setting::Select(own) = setting {
+            self.own = *own;
         }
     }
 
-    fn after_setting(self, setting: Setting) -> Self
-        ensures { result ≡ after_setting self (change setting) }
+    /// A text of a port. All units are off.
+    fn tell_command(&mut self, heap: Global, port: Port, text: &[u8]) -> Result<Told, AllocError>
+        ensures { IfOk result (λ t. Tells t self.new (by_command self.old (read port self.old.selection self.old.last [] text.now))) }
     {
-        let own = match setting {
-            Setting::Select(own) => own,
-            _ => self.own,
-        };
-        Carried {
+        let context = Context {
             selection: self.selection,
             last: self.last,
-            own,
+            settings: &[],
+        };
+        match read(port, text, &context) {
+            Ok(command) => {
+                let words = request_words(heap, &command.request)?;
+                self.follow_command(&command);
+                Ok(Told::Known(words))
+            }
+            Err(refusal) => Ok(refused(refusal)),
+        }
+    }
+
+    /// A text of Set.
+    fn tell_setting(&mut self, heap: Global, text: &[u8]) -> Result<Told, AllocError>
+        ensures { IfOk result (λ t. Tells t self.new (by_setting self.old (read_setting text.now))) }
+    {
+        match read_setting(text) {
+            Ok(setting) => {
+                let words = setting_words(heap, setting, self.own)?;
+                self.follow_setting(&setting);
+                Ok(Told::Known(words))
+            }
+            Err(refusal) => Ok(refused(refusal)),
         }
     }
 }
 
-/// A text that is refused leaves all as it was.
-fn tell_refusal(heap: Global, carried: Carried, refusal: Refusal) -> Result<Told, AllocError>
-    ensures { IfOk result (λ t. Tells t (refused carried refusal)) }
-{
-    Ok(Told {
-        words: refusal_words(heap, refusal)?,
-        known: false,
-        after: carried,
-    })
-}
+impl Teller for Explainer {
+    ghost telling = { told };
 
-/// A text of a port. All units are off.
-fn tell_command(heap: Global, port: Port, carried: Carried, text: &[u8]) -> Result<Told, AllocError>
-    ensures { IfOk result (λ t. Tells t (by_command carried (read port carried.selection carried.last [] text.now))) }
-{
-    let context = Context {
-        selection: carried.selection,
-        last: carried.last,
-        settings: &[],
-    };
-    match read(port, text, &context) {
-        Ok(command) => Ok(Told {
-            words: request_words(heap, &command.request)?,
-            known: true,
-            after: carried.after_command(&command),
-        }),
-        Err(refusal) => tell_refusal(heap, carried, refusal),
-    }
-}
-
-/// A text of Set.
-fn tell_setting(heap: Global, carried: Carried, text: &[u8]) -> Result<Told, AllocError>
-    ensures { IfOk result (λ t. Tells t (by_setting carried (read_setting text.now))) }
-{
-    match read_setting(text) {
-        Ok(setting) => Ok(Told {
-            words: setting_words(heap, setting, carried.own)?,
-            known: true,
-            after: carried.after_setting(setting),
-        }),
-        Err(refusal) => tell_refusal(heap, carried, refusal),
-    }
-}
-
-/// What a text asks for, or its refusal.
-pub(crate) fn tell(
-    heap: Global,
-    reading: Reading,
-    carried: Carried,
-    text: &[u8],
-) -> Result<Told, AllocError>
-    ensures { IfOk result (λ t. Tells t (told reading carried text.now)) }
-{
-    match reading {
-        Reading::Mount => tell_command(heap, Port::M, carried, text),
-        Reading::Bench => tell_command(heap, Port::P, carried, text),
-        Reading::Set => tell_setting(heap, carried, text),
+    fn tell(&mut self, heap: Global, text: &[u8]) -> Result<Told, AllocError> {
+        match self.reading {
+            Reading::Mount => self.tell_command(heap, Port::M, text),
+            Reading::Bench => self.tell_command(heap, Port::P, text),
+            Reading::Set => self.tell_setting(heap, text),
+        }
     }
 }

@@ -1,52 +1,41 @@
 //! What a setting asks for, in words.
-ghost use Rattle.std.specs.Prelude.{◌≡◌};
-ghost use Rattle.text.specs.Decimals.{fixed};
-ghost use Rattle.command.specs.Requests.{change};
+ghost use Rattle.std.specs.Prelude.{◌≡◌, Some};
+ghost use Rattle.std.specs.Fmt.{WritesOnOk};
 ghost use Rattle.explainer.specs.Writing.{Says};
-ghost use Rattle.explainer.specs.Settings.{with_point, factor_words, kill_words, set_words, change_words};
+ghost use Rattle.explainer.specs.Settings.{with_point, factor_words, change_words};
 
-use crate::words::axis_word;
 use command::request::Setting;
 use drive::axis::Axis;
 use std::alloc::{AllocError, Global};
+use std::fmt;
 use text::Decimal;
 
-/// Digits with a point before the last `places` of them.
-fn with_point(heap: Global, digits: u64, places: usize) -> Result<String, AllocError>
-    ensures { Says result (with_point places digits) }
+/// Writes digits with a point before the last `places` of them.
+fn with_point<W: fmt::Write>(f: &mut fmt::Formatter<W>, digits: u64, places: usize) -> fmt::Result
+    ensures { WritesOnOk W.write_str_gives f.old result (with_point places digits) f.new }
 {
     if places == 0 {
-        return format!(in heap; "{digits}.");
+        return write!(f, "{digits}.");
     }
-    let front = with_point(heap, digits / 10, places - 1)?;
+    with_point(f, digits / 10, places - 1)?;
     let last = digits % 10;
-    format!(in heap; "{front}{last}")
+    write!(f, "{last}")
 }
 
-fn factor_words(heap: Global, factor: Decimal) -> Result<String, AllocError>
-    ensures { Says result (factor_words (fixed factor)) }
-{
-    let digits = factor.value().unsigned_abs();
-    let places = factor.places();
-    if places == 0 {
-        format!(in heap; "{digits}")
-    } else {
-        with_point(heap, digits, places)
+/// A factor: its digits, with their point where it stood; it is above 0, so it has no sign.
+#[derive(Clone, Copy)]
+struct Factor(Decimal);
+
+impl fmt::Display for Factor {
+    ghost output = { λ x. Some (factor_words x.0) };
+
+    fn fmt<W: fmt::Write>(&self, f: &mut fmt::Formatter<W>) -> fmt::Result {
+        let digits = self.0.value().unsigned_abs();
+        match self.0.places() {
+            0 => write!(f, "{digits}"),
+            places => with_point(f, digits, places),
+        }
     }
-}
-
-fn kill_words(heap: Global, bit: u8, level: bool) -> Result<String, AllocError>
-    ensures { Says result (kill_words bit level) }
-{
-    let level = u8::from(level);
-    format!(in heap; "kill input {bit} at level {level}")
-}
-
-fn set_words(heap: Global, axis: Axis, what: &str) -> Result<String, AllocError>
-    ensures { Says result (set_words axis what.now) }
-{
-    let axis = axis_word(axis);
-    format!(in heap; "set {axis} {what}")
 }
 
 /// What is set of Set's axis, or which one that becomes.
@@ -55,23 +44,16 @@ pub(crate) fn setting_words(
     setting: Setting,
     axis: Axis,
 ) -> Result<String, AllocError>
-    ensures { Says result (change_words axis (change setting)) }
+    ensures { Says result (change_words axis setting) }
 {
     match setting {
-        Setting::Select(own) => {
-            let own = axis_word(own);
-            format!(in heap; "select {own}")
-        }
-        Setting::UnitsOn(factor) => {
-            let factor = factor_words(heap, factor)?;
-            let what = format!(in heap; "units {factor}")?;
-            set_words(heap, axis, what.as_str())
-        }
-        Setting::UnitsOff => set_words(heap, axis, "units off"),
+        Setting::Select(own) => format!(in heap; "select {own}"),
+        Setting::UnitsOn(factor) => format!(in heap; "set {axis} units {}", Factor(factor)),
+        Setting::UnitsOff => format!(in heap; "set {axis} units off"),
         Setting::KillInput { bit, level } => {
-            let what = kill_words(heap, bit, level)?;
-            set_words(heap, axis, what.as_str())
+            let level = u8::from(level);
+            format!(in heap; "set {axis} kill input {bit} at level {level}")
         }
-        Setting::NoKillInputs => set_words(heap, axis, "no kill inputs"),
+        Setting::NoKillInputs => format!(in heap; "set {axis} no kill inputs"),
     }
 }

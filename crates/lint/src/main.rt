@@ -1,4 +1,4 @@
-// Reads a block of command texts for port M from standard input, and prints what each text is.
+//! Reads a block of command texts for port M from standard input, and prints what each text is.
 #![tactic(auto)]
 
 use linter::report;

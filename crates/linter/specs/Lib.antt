@@ -1,5 +1,2 @@
-pub mod Writing
 pub mod Verdicts
-pub mod Lines
-pub mod Tallies
 pub mod Reports

@@ -1,2 +1,0 @@
-mod Adds
-mod Underway

@@ -1,5 +1,0 @@
-use Rattle.std.proofs.Common.{refl}
-use Rattle.explainer.proofs.line.mark_of.Goals as goal
-
-pub returns-else-finished : goal.returns-else-finished
-returns-else-finished c = rw c.if-finished.false refl
