@@ -5,5 +5,5 @@ mod figures;
 mod line;
 mod record;
 
-pub use figures::write_figures;
+pub use figures::{Question, write_figures};
 pub use record::ErrorRecord;

@@ -15,11 +15,13 @@ pub struct ErrorRecord {
 }
 
 impl Model for ErrorRecord {
-    ghost use Rattle.std.specs.Prelude.{ℕ, List};
+    ghost use Rattle.std.specs.Prelude.{ℕ, ◌≤◌, List, length};
 
     ghost Value = { List ℕ };
 
     ghost view = { λ r. r.bytes.items };
+
+    ghost invariant = { λ r. length r.bytes.items ≤ 160 };
 }
 
 /// Writes the bytes to the front of the block; those past its end are not stored.
@@ -42,7 +44,8 @@ impl ErrorRecord {
 
     /// Keeps the text, as far as there is room, where none is held yet.
     pub fn note(&mut self, text: &[u8])
-        ensures { self.new ≡ kept self.old text.now }
+        ensures keeps { self.new ≡ kept self.old text.now }
+        ensures most { length self.new ≤ 160 }
     {
         if self.bytes.is_empty() {
             let front = &text[..text.len().min(LONGEST)];

@@ -1,17 +1,16 @@
 //! What a command makes of a live controller, and what a refused text leaves.
 ghost use Rattle.std.specs.Prelude.{◌≡◌, ◌≤◌, length, IfOk};
-ghost use Rattle.text.specs.Writing.{over};
 ghost use Rattle.drive.specs.Axes.{axes};
 ghost use Rattle.model.specs.Machine.{each};
-ghost use Rattle.model.specs.Controller.{live, on, line, positions, free_places, erring, noted, obey};
+ghost use Rattle.model.specs.Controller.{live, on, erring, noted, obey};
 ghost use Rattle.parts.specs.Views.{machine_view, cleared_by};
 ghost use Rattle.controller.specs.Replies.{Did};
 ghost use Rattle.controller.specs.Views.{live_view};
 
 use crate::live_calls::ANSWER;
 use crate::states::Live;
-use answers::write_figures;
-use command::request::{Command, Port, Request, Selection};
+use answers::{Question, write_figures};
+use command::request::{Command, Port, Request};
 use drive::axis::AXES;
 use drive::motion::Drive;
 use model::refusal::Refusal;
@@ -49,11 +48,11 @@ impl<D: Drive> Live<D> {
             }
             Request::Positions(of) => {
                 *sheet = BLANK;
-                self.write_positions(of, answer)
+                write_figures(&self.machine, Question::Position, of, answer)
             }
             Request::Places(of) => {
                 *sheet = BLANK;
-                self.write_places(of, answer)
+                write_figures(&self.machine, Question::Places, of, answer)
             }
             Request::ErrorRecord => {
                 *sheet = BLANK;
@@ -72,22 +71,6 @@ impl<D: Drive> Live<D> {
         ensures rows { sheet.new ≡ (each axes (cleared_by D.Drive.ops request.now halt) (machine_view D.Drive.state self.old.machine)).tells }
     {
         self.machine.clear_all(request, halt, sheet);
-    }
-
-    /// Writes the positions of the selected axes.
-    fn write_positions(&self, of: Selection, answer: &mut [u8]) -> usize
-        ensures len { result ≡ length (line (positions D.Drive.ops (live_view D.Drive.state self.now) of)) }
-        ensures block { answer.new ≡ over (line (positions D.Drive.ops (live_view D.Drive.state self.now) of)) answer.old }
-    {
-        write_figures(answer, of, |axis| self.machine.position(axis))
-    }
-
-    /// Writes the free command places of the selected axes.
-    fn write_places(&self, of: Selection, answer: &mut [u8]) -> usize
-        ensures len { result ≡ length (line (free_places D.Drive.ops (live_view D.Drive.state self.now) of)) }
-        ensures block { answer.new ≡ over (line (free_places D.Drive.ops (live_view D.Drive.state self.now) of)) answer.old }
-    {
-        write_figures(answer, of, |axis| self.machine.free_places(axis) as i64)
     }
 
     /// A refused text of port M fills an empty first-error record.

@@ -6,4 +6,4 @@ use Rattle.controller.proofs.states.Live.note.Goals as goal
 
 pub returns-in-M : goal.returns-in-M
 returns-in-M g c =
-    ap (erring (live_view g.D.Drive.state c.args.self.now)) (c.note.ensures ∙ noted_short _ _ _ c.in-M.is c.requires)
+    ap (erring (live_view g.D.Drive.state c.args.self.now)) (c.note.ensures.keeps ∙ noted_short _ _ _ c.in-M.is c.requires)

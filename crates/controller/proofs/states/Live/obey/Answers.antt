@@ -41,22 +41,22 @@ returns g c =
           record {
             does = did_by (ap (obey o l last) (sym w.in-Positions.is)) (record {
               now = ap left w.self-is;
-              says = ap Ok (w.len-is ∙ w.write_positions-len.ensures.len);
+              says = ap Ok (w.len-is ∙ w.write_figures-len.ensures.len);
               rows = w.sheet-is ∙ blank_is;
-              answer = w.answer-is ∙ w.write_positions-len.ensures.block ∙ over_fits _ c.args.answer.now (le_trans short (omega arith));
+              answer = w.answer-is ∙ w.write_figures-len.ensures.block ∙ over_fits _ c.args.answer.now (le_trans short (omega arith));
             });
-            fits = omega (arith, short, w.write_positions-len.ensures.len);
+            fits = omega (arith, short, w.write_figures-len.ensures.len);
           }
       | in-Places w ↦
           let short = figures_short _ (places_small o l.machine) w.in-Places.of in
           record {
             does = did_by (ap (obey o l last) (sym w.in-Places.is)) (record {
               now = ap left w.self-is;
-              says = ap Ok (w.len-is ∙ w.write_places-len.ensures.len);
+              says = ap Ok (w.len-is ∙ w.write_figures-len-in-Places.ensures.len);
               rows = w.sheet-is ∙ blank_is;
-              answer = w.answer-is ∙ w.write_places-len.ensures.block ∙ over_fits _ c.args.answer.now (le_trans short (omega arith));
+              answer = w.answer-is ∙ w.write_figures-len-in-Places.ensures.block ∙ over_fits _ c.args.answer.now (le_trans short (omega arith));
             });
-            fits = omega (arith, short, w.write_places-len.ensures.len);
+            fits = omega (arith, short, w.write_figures-len-in-Places.ensures.len);
           }
       | in-ErrorRecord w ↦ record {
         does = did_by (ap (obey o l last) (sym w.in-ErrorRecord.is)) (record {

@@ -6,7 +6,7 @@ use Rattle.drive.specs.Axes.{in_order}
 use Rattle.model.specs.Controller.{line}
 use Rattle.answers.specs.Figures.{Computes}
 use Rattle.drive.proofs.Maps.{mapped}
-use Rattle.answers.proofs.figures.write_figures.Goals as goal
+use Rattle.answers.proofs.figures.write_each.Goals as goal
 
 pub returns-in-All : goal.returns-in-All
 returns-in-All g c =
