@@ -1,9 +1,10 @@
 -- Hexadecimal digits, read one after another, and as the library writes them. Assumes nothing.
-use Rattle.std.proofs.Common.{◌≡◌, ℕ, zero, suc, ◌+◌, ◌-◌, ◌*◌, ◌/◌, ◌%◌, ◌^◌, ◌<◌, ◌≤◌, Bool, true, false, ◌&&◌, eqb, List, [], ◌∷◌, refl, ap, ◌∙◌, ⊎_elim, arith}
+use Rattle.std.proofs.Common.{◌≡◌, ℕ, zero, suc, ◌+◌, ◌-◌, ◌*◌, ◌/◌, ◌%◌, ◌^◌, ◌<◌, ◌≤◌, Bool, true, false, ◌&&◌, eqb, List, [], ◌∷◌, ◌++◌, length, get_or, Some, None, Option, sym, refl, ap, ◌∙◌, ⊎_elim, arith}
 use Rattle.std.proofs.lemmas.Bool.{cases_lt, cond-true, cond-false, eq-eqb, ne_eqb}
 use Rattle.std.proofs.lemmas.Bool.Decides.{Decides-eqb, Decides-below_and}
 use Rattle.std.specs.Fmt.{digits as hexadecimal, digits_onto, digit_glyph, padded_integral, char_count, format_spec}
-use Rattle.listing.specs.Hex.{figure, written}
+use Rattle.listing.specs.Hex.{digit, following, digits, figure, written}
+use Rattle.listing.proofs.Places.{at_places}
 
 -- ---- reading
 
@@ -14,6 +15,21 @@ word_small (suc (suc zero)) h = omega arith
 word_small (suc (suc (suc zero))) h = omega arith
 word_small (suc (suc (suc (suc zero)))) h = omega arith
 word_small (suc (suc (suc (suc (suc n))))) h = absurd (omega arith)
+
+abbrev going_on : Option ℕ → List ℕ → Option ℕ
+going_on None bs = None
+going_on (Some n) bs = following n bs
+
+following_more : (n : ℕ) (bs more : List ℕ) → going_on (following n bs) more ≡ following n (bs ++ more)
+following_more n [] more = refl
+following_more n (b ∷ bs) more =
+    elim (digit b) as (λ o. going_on (elim o [ None ↦ None | Some d ↦ following (n * 16 + d) bs ]) more ≡ elim o [ None ↦ None | Some d ↦ following (n * 16 + d) (bs ++ more) ]) [ None ↦ refl | Some d ↦ following_more (n * 16 + d) bs more ]
+
+-- Four digits: two after two.
+pub in_two : (text : List ℕ) (o : Option ℕ) → length text ≡ 4 → o ≡ following 0 (get_or text 0 0 ∷ get_or text 1 0 ∷ []) → going_on o (get_or text 2 0 ∷ get_or text 3 0 ∷ []) ≡ digits 4 text
+in_two text o long e =
+    let low = get_or text 2 0 ∷ get_or text 3 0 ∷ [] in
+    ap (λ h. going_on h low) e ∙ following_more 0 (get_or text 0 0 ∷ get_or text 1 0 ∷ []) low ∙ sym (at_places 0 (digits 4) text 4 long)
 
 -- ---- writing
 

@@ -1,2 +1,4 @@
+mod Places
+mod Adding
 mod Digits
 mod Rows

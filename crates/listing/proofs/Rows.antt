@@ -1,12 +1,12 @@
 -- A line for each axis. Assumes nothing.
-use Rattle.std.proofs.Common.{◌≡◌, ℕ, zero, suc, ◌+◌, List, [], ◌∷◌, length, get_or, drop, ◌++◌, ◌⊎◌, ⊎_elim, sym, refl, ap, ◌∙◌, append-nil, arith, drop-cons}
-use Rattle.std.proofs.lemmas.List.{drop_all}
+use Rattle.std.proofs.Common.{◌≡◌, ℕ, List, [], ◌∷◌, map, length, ◌++◌, ◌⊎◌, ⊎_elim, pos, sym, refl, ap, ◌∙◌, append-nil, arith}
 use Rattle.drive.specs.declared.axis.Axis.{Axis}
 use Rattle.drive.specs.Axes.{in_order}
 use Rattle.model.specs.declared.row.Row.{Row}
 use Rattle.listing.specs.declared.show.Course.{Course}
 use Rattle.listing.specs.Printing.{row_line, row_lines}
-use Rattle.listing.specs.Shows.{origin, axis_line, axis_lines}
+use Rattle.listing.specs.Shows.{course_line, axis_lines}
+use Rattle.listing.proofs.Places.{at_places}
 
 -- F is what is printed of an axis and its item; nothing is printed of an axis that has none.
 module _ {X : Type 0} (F : Axis → X → List ℕ) where
@@ -36,15 +36,11 @@ rows_are (x ∷ y ∷ z ∷ t ∷ u ∷ v ∷ []) = refl
 rows_are (x ∷ y ∷ z ∷ t ∷ u ∷ v ∷ r ∷ []) = refl
 rows_are (x ∷ y ∷ z ∷ t ∷ u ∷ v ∷ r ∷ s ∷ more) = refl
 
--- The items at n places from i on.
-abbrev places : ℕ → ℕ → List Course → List Course
-places zero i xs = []
-places (suc n) i xs = get_or xs i origin ∷ places n (suc i) xs
+-- An axis that the list lacks; the courses of all eight lack none.
+abbrev origin : Course
+origin = record { position = pos 0; target = pos 0 }
 
-listed : (n i : ℕ) (xs : List Course) → length xs ≡ i + n → drop i xs ≡ places n i xs
-listed zero i xs e = drop_all i xs (omega arith)
-listed (suc n) i xs e = drop-cons xs i origin (omega arith) ∙ ap (λ l. get_or xs i origin ∷ l) (listed n (suc i) xs (omega arith))
-
-pub axes_are : (courses : List Course) → length courses ≡ 8 → lines_of axis_line in_order courses ≡ axis_lines courses
+pub axes_are : (courses : List Course) → length courses ≡ 8 → lines_of course_line in_order courses ≡ axis_lines (map (λ c. c.position) courses) (map (λ c. c.target) courses)
 axes_are courses full =
-    let e = listed 8 0 courses full in ap (lines_of axis_line in_order) e ∙ sym (ap axis_lines e)
+    at_places origin (lines_of course_line in_order) courses 8 full
+    ∙ sym (at_places origin (λ cs. axis_lines (map (λ c. c.position) cs) (map (λ c. c.target) cs)) courses 8 full)

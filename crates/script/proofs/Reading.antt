@@ -4,7 +4,7 @@ use Rattle.std.specs.Iterator.{AlwaysYields}
 use Rattle.std.specs.List.{slice_split, onto_first}
 use Rattle.std.specs.Option.{option_map}
 use Rattle.std.proofs.lemmas.Bool.{cases_Bool}
-use Rattle.script.specs.Words.{longer, words}
+use Rattle.script.specs.Words.{parted, longer, words}
 use Rattle.script.specs.Numbers.{then, number, numbers}
 
 longer_is : (b : ℕ) (ws : List (List ℕ)) → onto_first b ws ≡ longer b ws
@@ -18,6 +18,15 @@ words_are (b ∷ bs) =
     (λ (t : eqb b 32 ≡ true). rw t (ap (λ ws. [] ∷ ws) (words_are bs)))
     (λ (f : eqb b 32 ≡ false). rw f (longer_is b (slice_split (λ b. eqb b 32) bs) ∙ ap (longer b) (words_are bs)))
     (cases_Bool (eqb b 32))
+
+abbrev pub others : Option (List ℕ) → List (List ℕ)
+others None = []
+others (Some text) = words text
+
+pub words_parted : (text : List ℕ) → words text ≡ (parted text).0 ∷ others (parted text).1
+words_parted [] = refl
+words_parted (b ∷ bs) =
+    ⊎_elim (λ (t : eqb b 32 ≡ true). rw t refl) (λ (f : eqb b 32 ≡ false). rw f (ap (longer b) (words_parted bs))) (cases_Bool (eqb b 32))
 
 abbrev pub ahead : List ℤ → Option (List ℤ) → Option (List ℤ)
 ahead ns o = option_map (λ more. ns ++ more) o

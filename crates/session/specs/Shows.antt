@@ -6,10 +6,9 @@ use Rattle.model.specs.Controller.{Live}
 use Rattle.listing.specs.declared.show.Course.{Course}
 use Rattle.listing.specs.Shows.{shown}
 
-module _ {S : Type 0} (o : Ops S) (l : Live S) where
-  -- Where an axis is, and where it is going.
-  abbrev pub course : ℕ → Course
-  course k = record { position = o.position l.machine.drive k; target = o.target l.machine.drive k }
+abbrev pub shown_live : {S : Type 0} → Ops S → Live S → List ℕ
+shown_live o l = shown l.machine.output (each (o.position l.machine.drive)) (each (o.target l.machine.drive))
 
-  abbrev pub shown_live : List ℕ
-  shown_live = shown l.machine.output (each course)
+-- Where an axis is, and where it is going.
+abbrev pub course : {S : Type 0} → Ops S → Live S → ℕ → Course
+course o l k = record { position = o.position l.machine.drive k; target = o.target l.machine.drive k }

@@ -22,6 +22,7 @@ fn courses<D: Drive>(live: &Live<D>) -> [Course; AXES]
 }
 
 /// Prints the output word, then each axis's position and target.
+#[tactic(auto, unfolding(drive::specs::Axes::axes, drive::specs::Axes::each))]
 pub fn show<D: Drive>(live: &Live<D>, out: &mut Vec<u8>) -> Result<(), AllocError>
     ensures { Adds result out.old out.new (shown_live D.Drive.ops (live_view D.Drive.state live.now)) }
 {
