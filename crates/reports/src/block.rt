@@ -3,7 +3,7 @@ ghost use Rattle.std.specs.Prelude.{◌≡◌, ◌^◌, IfOk, OnOk, string_bytes
 ghost use Rattle.reports.specs.Tallies.{Within};
 ghost use Rattle.reports.specs.Reports.{so_far, blank, with_text, reported};
 
-use crate::shown::Shown;
+use crate::shown::show;
 use crate::tally::Tally;
 use crate::teller::Teller;
 use std::alloc::{AllocError, Global};
@@ -36,9 +36,10 @@ impl<T: Teller> Draft<T> {
     {
         let told = self.teller.tell(*self.lines.allocator(), part.bytes)?;
         let offset = part.offset;
-        let text = Shown(part.bytes);
+        write!(self.lines, "{offset} ")?;
+        show(&mut self.lines, part.bytes)?;
         let mark = if finished { "" } else { " unfinished" };
-        writeln!(self.lines, "{offset} {text} {told}{mark}")?;
+        writeln!(self.lines, " {told}{mark}")?;
         self.tally = self.tally.count(told.is_known(), finished);
         Ok(())
     }

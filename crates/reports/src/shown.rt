@@ -1,8 +1,11 @@
 //! A text as its line shows it.
-ghost use Rattle.std.specs.Prelude.{◌≡◌, Some};
+ghost use Rattle.std.specs.Prelude.{◌≡◌, ◌<◌, true, ◌++◌, OnOk, string_bytes};
+ghost use Rattle.std.specs.Fmt.{digit_glyph};
 ghost use Rattle.reports.specs.Lines.{printable, shown_byte, shown};
 
-use std::fmt;
+use std::alloc::AllocError;
+
+const DIGITS: &[u8; 16] = b"0123456789ABCDEF";
 
 fn is_printable(byte: u8) -> bool
     ensures { result ≡ printable byte }
@@ -10,35 +13,34 @@ fn is_printable(byte: u8) -> bool
     matches!(byte, b' '..=b'~')
 }
 
-/// A byte as it is shown: printable ASCII as it is, any other as `\xHH`.
-#[derive(Clone, Copy)]
-struct ShownByte(u8);
-
-impl fmt::Display for ShownByte {
-    ghost output = { λ b. Some (shown_byte b.0) };
-
-    fn fmt<W: fmt::Write>(&self, f: &mut fmt::Formatter<W>) -> fmt::Result {
-        let byte = self.0;
-        if is_printable(byte) {
-            f.write_char(char::from(byte))
-        } else {
-            write!(f, "\\x{byte:02X}")
-        }
-    }
+/// A hexadecimal digit, in upper case.
+#[tactic(auto, using(crate::proofs::Digits::digit_at))]
+fn hexadecimal(digit: u8) -> char
+    requires { digit < 16 }
+    ensures { result ≡ digit_glyph true digit }
+{
+    char::from(DIGITS[usize::from(digit)])
 }
 
-/// A text, each of its bytes as it is shown.
-#[derive(Clone, Copy)]
-pub(crate) struct Shown<'a>(pub(crate) &'a [u8]);
-
-impl fmt::Display for Shown<'_> {
-    ghost output = { λ text. Some (shown text.0.now) };
-
-    fn fmt<W: fmt::Write>(&self, f: &mut fmt::Formatter<W>) -> fmt::Result {
-        for byte in self.0 {
-            let byte = ShownByte(*byte);
-            write!(f, "{byte}")?;
-        }
-        Ok(())
+/// Shows a byte: printable ASCII as it is, any other as `\xHH`.
+fn show_byte(lines: &mut String, byte: u8) -> Result<(), AllocError>
+    ensures { OnOk result (string_bytes lines.new ≡ string_bytes lines.old ++ shown_byte byte) }
+{
+    if is_printable(byte) {
+        return lines.push(char::from(byte));
     }
+    lines.push('\\')?;
+    lines.push('x')?;
+    lines.push(hexadecimal(byte / 16))?;
+    lines.push(hexadecimal(byte % 16))
+}
+
+/// Shows a text, each of its bytes in turn.
+pub(crate) fn show(lines: &mut String, text: &[u8]) -> Result<(), AllocError>
+    ensures { OnOk result (string_bytes lines.new ≡ string_bytes lines.old ++ shown text.now) }
+{
+    for byte in text {
+        show_byte(lines, *byte)?;
+    }
+    Ok(())
 }
