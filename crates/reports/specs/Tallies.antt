@@ -2,6 +2,10 @@
 use Rattle.std.specs.Prelude.{ℕ, ◌+◌, ◌≤◌, Bool, cond, List, ◌++◌, codes, decimal}
 use Rattle.reports.specs.declared.tally.Tally.{Tally}
 
+-- the type under a name that other crates can use
+abbrev pub TextTally : Type 0
+TextTally = Tally
+
 abbrev pub none : Tally
 none = record { texts = 0; known = 0; refused = 0; unfinished = 0 }
 
