@@ -2,8 +2,12 @@
 use Rattle.std.specs.Prelude.{ℕ, replicate, pos, codes}
 use Rattle.drive.specs.Axes.{axes}
 use Rattle.motors.specs.Banks.{banked}
-use Rattle.drives.specs.Counting.{CountingState, counted, counting_from}
+use Rattle.drives.specs.Counting.{Rate, CountingState, counted, counting_from}
+use Rattle.drives.specs.declared.banked.Banked.{Banked}
 use Rattle.model.specs.Controller.{Controller, parked, live, set_call, arming, call, new}
+
+abbrev pub bank_of : Banked Rate → CountingState
+bank_of d = d.bank
 
 -- A counting drive at rate 2 from 0, with `IOK2,1` set on X.
 abbrev pub ready : Controller CountingState

@@ -4,7 +4,7 @@
 ghost use Rattle.std.specs.Prelude.{◌≡◌};
 ghost use Rattle.model.specs.Controller as C;
 ghost use Rattle.controller.specs.Views.{live_view};
-ghost use Rattle.axes.specs.Starts.{ready, armed};
+ghost use Rattle.axes.specs.Starts.{bank_of, ready, armed};
 
 use controller::{Live, Parked};
 use drives::counting::Counting;
@@ -13,7 +13,7 @@ use std::io::{BufRead, BufReader, Write};
 
 /// Over a counting drive at rate 2 from 0, with `IOK2,1` set on X and no contact on.
 fn start() -> Live<Counting>
-    ensures { C.live (live_view (λ bank. bank) result) ≡ armed ready 0 }
+    ensures { C.live (live_view bank_of result) ≡ armed ready 0 }
 {
     let mut parked = Parked::new(counting(2, 0));
     let _ = parked.set(b"IOK2,1");

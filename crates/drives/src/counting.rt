@@ -4,27 +4,22 @@ ghost use Rattle.drives.specs.Counting.{rate_near, counted, counting_from};
 ghost use Rattle.motors.specs.Motors.{near, resting};
 ghost use Rattle.drives.specs.Paces.{counted_lawful};
 
+use crate::banked::Banked;
 use crate::up_to::UpTo;
 use drive::axis::AXES;
 use motors::bank::Bank;
 use motors::motor::Motor;
 use motors::ranged::Ranged;
-use motors::rule::Moves;
+use motors::rule::{Moves, Steady};
 use std::array;
 
 /// How far an axis moves in one advance.
 pub type Rate = UpTo<1_000_000>;
 
-pub type Counting = Bank<Rate>;
+pub type Counting = Banked<Rate>;
 
 impl Moves for Rate {
     ghost rule = { counted };
-
-    ghost lawful = { counted_lawful };
-
-    fn is_down(self) -> bool {
-        false
-    }
 
     fn moved(motor: Motor<Rate>, reading: i64, up: bool) -> Motor<Rate>
         ensures { result ≡ counted.moved motor reading up }
@@ -39,6 +34,14 @@ impl Moves for Rate {
     }
 }
 
+impl Steady for Rate {
+    ghost lawful = { counted_lawful };
+
+    fn is_down(self) -> bool {
+        false
+    }
+}
+
 /// An axis still at its start, with its rate.
 fn still(rate: i64, start: i64) -> Motor<Rate>
     ensures { result ≡ resting (near start) (rate_near rate) }
@@ -46,9 +49,13 @@ fn still(rate: i64, start: i64) -> Motor<Rate>
     Motor::still(Ranged::near(start), Rate::near(rate))
 }
 
-/// Still at the starts, each axis with its rate.
-pub fn new(rates: &[i64; AXES], starts: &[i64; AXES]) -> Counting
-    ensures { result ≡ counting_from rates.now starts.now }
-{
-    Bank::new(array::from_fn(|i| still(rates[i], starts[i])))
+impl Counting {
+    /// Still at the starts, each axis with its rate.
+    pub fn new(rates: &[i64; AXES], starts: &[i64; AXES]) -> Counting
+        ensures { result.bank ≡ counting_from rates.now starts.now }
+    {
+        Banked {
+            bank: Bank::new(array::from_fn(|i| still(rates[i], starts[i]))),
+        }
+    }
 }

@@ -1,6 +1,7 @@
 //! Three drives: counting, reporting, and ratio over any other.
 #![tactic(auto)]
 
+pub mod banked;
 pub mod counting;
 pub mod ratio;
 pub mod reporting;

@@ -3,11 +3,12 @@ ghost use Rattle.std.specs.Prelude.{◌≡◌};
 ghost use Rattle.drives.specs.Reporting.{reported, reporting_from};
 ghost use Rattle.drives.specs.Paces.{reported_lawful};
 
+use crate::banked::Banked;
 use drive::axis::AXES;
 use motors::bank::Bank;
 use motors::motor::Motor;
 use motors::ranged::Ranged;
-use motors::rule::Moves;
+use motors::rule::{Moves, Steady};
 use std::array;
 
 /// Whether an axis is down.
@@ -16,16 +17,10 @@ pub struct Link {
     pub down: bool,
 }
 
-pub type Reporting = Bank<Link>;
+pub type Reporting = Banked<Link>;
 
 impl Moves for Link {
     ghost rule = { reported };
-
-    ghost lawful = { reported_lawful };
-
-    fn is_down(self) -> bool {
-        self.down
-    }
 
     fn moved(motor: Motor<Link>, reading: i64, up: bool) -> Motor<Link>
         ensures { result ≡ reported.moved motor reading up }
@@ -47,9 +42,22 @@ impl Moves for Link {
     }
 }
 
-/// Still at the starts, every axis up.
-pub fn new(starts: &[i64; AXES]) -> Reporting
-    ensures { result ≡ reporting_from starts.now }
-{
-    Bank::new(starts.map(|start| Motor::still(Ranged::near(start), Link { down: false })))
+impl Steady for Link {
+    ghost lawful = { reported_lawful };
+
+    fn is_down(self) -> bool {
+        self.down
+    }
+}
+
+impl Reporting {
+    /// Still at the starts, every axis up.
+    pub fn new(starts: &[i64; AXES]) -> Reporting
+        ensures { result.bank ≡ reporting_from starts.now }
+    {
+        let motors = starts.map(|start| Motor::still(Ranged::near(start), Link { down: false }));
+        Banked {
+            bank: Bank::new(motors),
+        }
+    }
 }

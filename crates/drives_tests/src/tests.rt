@@ -3,8 +3,9 @@ use crate::locked::Locked;
 use drive::axis::{AXES, Axis};
 use drive::health::Health;
 use drive::motion::{Decline, Drive, halt_all};
+use drives::counting::Counting;
 use drives::ratio::Ratio;
-use drives::{counting, reporting};
+use drives::reporting::Reporting;
 
 const SILENT: Health = Health { bits: 0 };
 
@@ -21,7 +22,7 @@ const COUNTED: [(i64, i64, i64, i64); 6] = [
 #[test]
 fn counting_moves_by_its_rate(rt: HostRuntime) {
     for (rate, start, target, next) in COUNTED {
-        let mut drive = counting::new(&[rate; AXES], &[start; AXES]);
+        let mut drive = Counting::new(&[rate; AXES], &[start; AXES]);
         assert!(rt; drive.begin(Axis::Y, target).is_ok());
         drive.advance(&[], SILENT);
         assert!(rt; drive.position(Axis::Y) == next);
@@ -44,7 +45,7 @@ const REPORTED: [(i64, i64, u8, i64, bool); 7] = [
 #[test]
 fn reporting_stands_where_it_is_told(rt: HostRuntime) {
     for (target, reading, bits, next, down) in REPORTED {
-        let mut drive = reporting::new(&[0; AXES]);
+        let mut drive = Reporting::new(&[0; AXES]);
         assert!(rt; drive.begin(Axis::Z, target).is_ok());
         drive.advance(&[0, 0, reading], Health { bits });
         assert!(rt; drive.position(Axis::Z) == next);
@@ -54,7 +55,7 @@ fn reporting_stands_where_it_is_told(rt: HostRuntime) {
 
 #[test]
 fn a_down_axis_comes_up_and_goes_on(rt: HostRuntime) {
-    let mut drive = reporting::new(&[0; AXES]);
+    let mut drive = Reporting::new(&[0; AXES]);
     drive.advance(&[], SILENT);
     assert!(rt; drive.begin(Axis::X, 5) == Err(Decline::Down));
     drive.advance(&[0], Health { bits: 1 });
@@ -66,7 +67,7 @@ fn a_down_axis_comes_up_and_goes_on(rt: HostRuntime) {
 /// Fifty steps of the counting drive to one count of the top, by 10 and then by 5.
 #[test]
 fn ratio_stands_over_ratio_over_counting(rt: HostRuntime) {
-    let counting = counting::new(&[100; AXES], &[0; AXES]);
+    let counting = Counting::new(&[100; AXES], &[0; AXES]);
     let mut drive = Ratio::new(Ratio::new(counting, 10), 5);
     assert!(rt; drive.greatest(Axis::X) == 42_949_672);
     assert!(rt; drive.least(Axis::X) == -42_949_672);
@@ -89,7 +90,7 @@ fn ratio_stands_over_ratio_over_counting(rt: HostRuntime) {
 #[test]
 fn steps_to_a_count_are_from_1_to_1000(rt: HostRuntime) {
     for (steps, position) in [(0, 2_000_999), (-7, 2_000_999), (7, 285_857), (5000, 2000)] {
-        let drive = Ratio::new(counting::new(&[1; AXES], &[2_000_999; AXES]), steps);
+        let drive = Ratio::new(Counting::new(&[1; AXES], &[2_000_999; AXES]), steps);
         assert!(rt; drive.position(Axis::S) == position);
     }
 }

@@ -7,12 +7,15 @@ use crate::motor::Motor;
 pub trait Moves: Copy {
     ghost rule: { Rule Self };
 
-    fn is_down(self) -> bool
-        ensures { result ≡ rule.down self };
-
     /// The motor after one advance, by its reading and whether its health bit is 1.
     fn moved(motor: Motor<Self>, reading: i64, up: bool) -> Motor<Self>
         ensures { result ≡ rule.moved motor reading up };
+}
 
-    ghost lawful: { Lawful rule };
+/// A rule that keeps the laws, so that a drive can move by it.
+pub trait Steady: Moves {
+    fn is_down(self) -> bool
+        ensures { result ≡ Self.rule.down self };
+
+    ghost lawful: { Lawful Self.rule };
 }

@@ -5,7 +5,7 @@ use Rattle.drive.proofs.Indices.{axes_is, index_of}
 use Rattle.drive.proofs.Filling.{filled_none}
 use Rattle.motors.specs.Banks.{absent_motor}
 use Rattle.motors.proofs.Lifts.{filled_all, written_more, motor_next, next_made}
-use Rattle.motors.proofs.bank.BankDrive.advance.Goals as goal
+use Rattle.motors.proofs.bank.Bank.advance.Goals as goal
 
 pub loop-axis-init : goal.loop-axis-init
 loop-axis-init g c = (filled_none _ _ _ c.args.self.now.full, λ k h. refl)

@@ -1,6 +1,6 @@
 use Rattle.motors.specs.Banks.{absent_motor}
 use Rattle.motors.proofs.Lifts.{Written, motor_next}
-use Rattle.motors.proofs.bank.BankDrive.advance.Given as goal
+use Rattle.motors.proofs.bank.Bank.advance.Given as goal
 
 abbrev pub invariant-loop-axis : goal.invariant-loop-axis
 invariant-loop-axis g l =

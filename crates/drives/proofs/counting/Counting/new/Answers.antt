@@ -3,7 +3,7 @@ use Rattle.std.proofs.lemmas.Int.{to_z-of_z}
 use Rattle.drive.proofs.Filling.{from_fn_each}
 use Rattle.motors.proofs.Lifts.{same_bank}
 use Rattle.drives.specs.Counting.{counting_start}
-use Rattle.drives.proofs.counting.new.Goals as goal
+use Rattle.drives.proofs.counting.Counting.new.Goals as goal
 
 pub returns : goal.returns
 returns c =
