@@ -62,7 +62,7 @@ impl<D: Drive> Live<D> {
         ensures { after (live (live_view D.Drive.state self.new)) (told sheet.new []) ≡ all_parts (sampling (live_view D.Drive.state self.old) word) (each axes (judged D.Drive.ops word) (live_view D.Drive.state self.old).machine) }
     {
         self.sampled = word;
-        self.machine.judge_all(word, sheet);
+        self.machine.judge_each(word, sheet);
     }
 
     /// Advances the drive once, then executes at most one entry of each axis.
@@ -87,7 +87,7 @@ impl<D: Drive> Live<D> {
         ensures { after (live (live_view D.Drive.state self.new)) (told sheet.new []) ≡ all_parts (live_view D.Drive.state self.old) (each axes (turn D.Drive.ops self.old.sampled) (advancing D.Drive.ops (live_view D.Drive.state self.old) readings.now health)) }
     {
         self.machine.advance(readings, health);
-        self.machine.turn_all(self.sampled, sheet);
+        self.machine.turn_each(self.sampled, sheet);
     }
 
     /// Clears and halts every axis, and waits to be armed again.

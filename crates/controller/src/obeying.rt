@@ -39,7 +39,7 @@ impl<D: Drive> Live<D> {
             }
             Request::Place { .. } => {
                 self.machine.admits(&request)?;
-                self.machine.place_all(&request, sheet);
+                self.machine.place_each(&request, sheet);
                 0
             }
             Request::Clear { halt, .. } => {
@@ -70,7 +70,7 @@ impl<D: Drive> Live<D> {
         ensures does { live_view D.Drive.state self.new ≡ on (live_view D.Drive.state self.old) (each axes (cleared_by D.Drive.ops request.now halt) (machine_view D.Drive.state self.old.machine)).now }
         ensures rows { sheet.new ≡ (each axes (cleared_by D.Drive.ops request.now halt) (machine_view D.Drive.state self.old.machine)).tells }
     {
-        self.machine.clear_all(request, halt, sheet);
+        self.machine.clear_each(request, halt, sheet);
     }
 
     /// A refused text of port M fills an empty first-error record.

@@ -1,11 +1,13 @@
 -- A loop that does one axis's part after the other, and writes down what each tells.
 use Rattle.std.proofs.Common.{◌≡◌, ℕ, suc, ◌+◌, ◌<◌, List, [], ◌∷◌, ◌++◌, length, get_or, take, set, replicate, sym, refl, ap, ◌∙◌, ap₂, add-one, arith, take-suc-set}
 use Rattle.std.proofs.lemmas.List.{take_all, same_lists, get_or-replicate, length-replicate}
+use Rattle.std.proofs.lemmas.Bool.Decides.{nat_tests}
 use Rattle.std.specs.Array.{IsFromFnResult}
 use Rattle.std.specs.Fn.{Mut, Called}
 use Rattle.drive.specs.Axes.{axes}
 use Rattle.drive.proofs.Indices.{axes_is}
 use Rattle.model.specs.Machine.{Machine, Part, each}
+use Rattle.parts.specs.Views.{if_taken}
 
 module _ {S R : Type 0} (f : ℕ → Machine S → Part S R) (start : Machine S) where
   -- The axes below `n` had their parts: `m` is the machine after these, and the front of `rs` what they told.
@@ -39,3 +41,13 @@ each_same g f xs a made gives =
     let low : k < 8 = omega (arith, made.long) in
     let here = made.at k d low in
     gives k here.0 here.1 (get_or xs k d) here.2 ∙ sym (get_or-replicate axes k a d (omega (arith, axes_is))))
+
+-- A sheet with a row for each axis is taken, and any other is not.
+module _ {A : Type 0} (n : ℕ) (taken refused : A) where
+  pub is_taken : n ≡ 8 → taken ≡ if_taken n taken refused
+  is_taken h = grind (arith, nat_tests, axes_is)
+
+  pub not_taken : (n ≡ 8 → ⊥) → refused ≡ if_taken n taken refused
+  not_taken h = grind (arith, nat_tests, axes_is)
+
+pub ruleset sheets = (is_taken, not_taken)

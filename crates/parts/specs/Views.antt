@@ -1,13 +1,15 @@
 -- The code's values as the model's. Assumes nothing.
-use Rattle.std.specs.Prelude.{◌≡◌, ℕ, Bool, List, ℤ}
+use Rattle.std.specs.Prelude.{◌≡◌, ℕ, Bool, cond, List, ℤ, Ok, Err, Result, ◌==◌}
 use Rattle.std.specs.Borrow.{MutBor}
 use Rattle.contacts.specs.declared.kill.KillInputs.{KillInputs}
 use Rattle.drive.specs.declared.health.Health.{Health}
 use Rattle.drive.specs.declared.axis.Axis.{Axis}
-use Rattle.drive.specs.Axes.{index}
+use Rattle.drive.specs.Axes.{axes, index}
 use Rattle.drive.specs.Drive.{Ops}
 use Rattle.command.specs.declared.request.Request.{Request}
 use Rattle.command.specs.Requests.{clears_on}
+use Rattle.model.specs.declared.refusal.Refusal.{Refusal}
+use Rattle.model.specs.declared.refusal.Refusal.TheVariants.{Sheet}
 use Rattle.model.specs.declared.row.Row.{Row}
 use Rattle.model.specs.Machine as M
 use Rattle.parts.specs.declared.machine.Machine.{Machine}
@@ -43,3 +45,10 @@ kills_put k m kills = M.put k m m.drive (rekilled (M.at k m) kills)
 -- The machine once its drive has advanced.
 abbrev pub advanced : {S : Type 0} → Ops S → M.Machine S → List ℤ → Health → M.Machine S
 advanced o m readings h = record { drive = o.advanced m.drive readings h; posts = m.posts; output = m.output }
+
+-- A sheet of `n` rows is taken where there is one for each axis.
+abbrev pub if_taken : {A : Type 0} → ℕ → A → A → A
+if_taken n taken refused = cond (n == axes) taken refused
+
+abbrev pub sheet_taken : ℕ → Result (Unit {0}) Refusal
+sheet_taken n = if_taken n (Ok tt) (Err Sheet)

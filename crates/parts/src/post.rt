@@ -2,6 +2,7 @@
 ghost use Rattle.std.specs.Prelude.{◌≡◌, true, false, length, IfSome};
 ghost use Rattle.contacts.specs.Kills.{hit};
 ghost use Rattle.queue.specs.Entries.{InRange};
+ghost use Rattle.queue.specs.Sound.{Sound};
 ghost use Rattle.queue.specs.Views.{head_of, free, placed, taken, replanned, lacks_places, lacks_count};
 ghost use Rattle.model.specs.Machine.{blank, waiting, emptied, marked, with_queue};
 ghost use Rattle.model.specs.Controller.{armed};
@@ -43,6 +44,7 @@ impl Post {
     pub fn clear(&mut self) -> usize
         ensures says { result ≡ length (waiting self.old) }
         ensures does { self.new ≡ emptied self.old }
+        ensures sound { Sound self.old.queue × Sound self.new.queue }
     {
         self.queue.clear()
     }
@@ -51,6 +53,7 @@ impl Post {
     pub fn kill(&mut self) -> usize
         ensures says { result ≡ length (waiting self.old) }
         ensures does { self.new ≡ marked true (emptied self.old) }
+        ensures sound { Sound self.old.queue × Sound self.new.queue }
     {
         let dropped = self.clear();
         self.killed = true;
@@ -112,7 +115,8 @@ impl Post {
     }
 
     pub fn free_places(&self) -> usize
-        ensures { result ≡ free self.now.queue }
+        ensures is { result ≡ free self.now.queue }
+        ensures sound { Sound self.now.queue }
     {
         self.queue.free_places()
     }

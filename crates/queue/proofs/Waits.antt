@@ -121,15 +121,18 @@ added_more cs zs p n e more t r =
     (is, record { one_each = grind (arith, taking-append, length-append); sound = rw is (Sound-extended _ _ t.sound r) })
 
 -- The first entry gone, of a code that takes an argument.
-pub Tied-past : (cs : List Code) (zs : List ℤ) (p : Option ℤ) (n : ℕ) (h : Head) → Some h ≡ head_of (seen cs zs p n) → takes h.entry.code ≡ true
-    → Tied cs zs p n → Tied (drop 1 cs) (drop 1 zs) p n
-Tied-past [] zs p n h is more t = cc
-Tied-past (c ∷ cs) zs p n h is more t =
-    let same = ap (λ o. (unwrap_or o h).entry.code) is in
-    let here : takes c ≡ true = rw (← same) more in
-    let one_each = t.one_each in
-    let past : seen cs (drop 1 zs) p n ≡ taken (seen (c ∷ cs) zs p n) = rw here in
-    record { one_each = grind (arith, length-drop); sound = rw past (Sound-taken _ t.sound) }
+pub Tied-past : (cs ds : List Code) (zs ys : List ℤ) (p : Option ℤ) (n : ℕ) (v : View) (h : Head) → ds ≡ drop 1 cs → ys ≡ drop 1 zs
+    → seen cs zs p n ≡ v → Some h ≡ head_of v → takes h.entry.code ≡ true → Tied cs zs p n → Tied ds ys p n
+Tied-past cs ds zs ys p n v h cs-is zs-is v-is h-is more t = rw (cs-is, zs-is) (by cs (h-is ∙ ap head_of (sym v-is)) t)
+  where
+    by : (cs : List Code) → Some h ≡ head_of (seen cs zs p n) → Tied cs zs p n → Tied (drop 1 cs) (drop 1 zs) p n
+    by [] is t = cc
+    by (c ∷ cs) is t =
+        let same = ap (λ o. (unwrap_or o h).entry.code) is in
+        let here : takes c ≡ true = rw (← same) more in
+        let one_each = t.one_each in
+        let past : seen cs (drop 1 zs) p n ≡ taken (seen (c ∷ cs) zs p n) = rw here in
+        record { one_each = grind (arith, length-drop); sound = rw past (Sound-taken _ t.sound) }
 
 -- The argument of a code at the head: the next of the arguments, or 0 where the code takes none.
 abbrev pub argument : Code → List ℤ → ℤ

@@ -71,7 +71,8 @@ impl Refusal {
 #[tactic(auto, using(crate::proofs::Waits::waiting))]
 impl AxisQueue {
     pub fn new() -> AxisQueue
-        ensures { result ≡ fresh }
+        ensures is { result ≡ fresh }
+        ensures sound { Sound result }
     {
         AxisQueue {
             commands: Ring::new(Code::Ws),
@@ -83,14 +84,16 @@ impl AxisQueue {
 
     /// Whether too few command or argument places are free, or an argument is no count.
     pub fn lacks_places(&self, batch: Batch) -> bool
-        ensures { result ≡ lacks_places self.now batch }
+        ensures is { result ≡ lacks_places self.now batch }
+        ensures sound { Sound self.now }
     {
         self.lacks_commands(batch) || self.lacks_arguments(batch)
     }
 
     /// Whether the batch would have the axis take in more than the most entries.
     pub fn lacks_count(&self, batch: Batch) -> bool
-        ensures { result ≡ lacks_count self.now batch }
+        ensures is { result ≡ lacks_count self.now batch }
+        ensures sound { Sound self.now }
     {
         batch.len() as u32 > MOST_ENTRIES - self.count
     }
@@ -99,6 +102,7 @@ impl AxisQueue {
     pub fn place(&mut self, batch: Batch) -> Result<(), Refusal>
         ensures says { result ≡ verdict self.old batch }
         ensures does { self.new ≡ placed self.old batch }
+        ensures sound { Sound self.old × Sound self.new }
     {
         self.room_for(batch)?;
         match batch {
@@ -115,6 +119,7 @@ impl AxisQueue {
     pub fn head(&self) -> Option<Head>
         ensures says { result ≡ head_of self.now }
         ensures ranged { IfSome result (λ h. InRange h.entry.operand) }
+        ensures sound { Sound self.now }
     {
         let code = self.commands.front()?;
         let operand = if code.takes_argument() {
@@ -134,10 +139,12 @@ impl AxisQueue {
         ensures says { result ≡ head_of self.old }
         ensures does { self.new ≡ taken self.old }
         ensures ranged { IfSome result (λ h. InRange h.entry.operand) }
+        ensures sound { Sound self.old × Sound self.new }
     {
         let head = self.head()?;
+        let takes = head.entry.code.takes_argument();
         self.commands.pop_front();
-        if head.entry.code.takes_argument() {
+        if takes {
             self.arguments.pop_front();
         }
         Some(head)
@@ -147,6 +154,7 @@ impl AxisQueue {
     pub fn clear(&mut self) -> usize
         ensures says { result ≡ length self.old.entries }
         ensures does { self.new ≡ cleared self.old }
+        ensures sound { Sound self.old × Sound self.new }
     {
         let dropped = self.commands.len();
         self.commands.clear();
@@ -157,7 +165,8 @@ impl AxisQueue {
 
     /// Clears, and counts from the start again.
     pub fn rearm(&mut self)
-        ensures { self.new ≡ fresh }
+        ensures does { self.new ≡ fresh }
+        ensures sound { Sound self.old × Sound self.new }
     {
         let _ = self.clear();
         self.count = 0;
@@ -172,19 +181,22 @@ impl AxisQueue {
     }
 
     pub fn plan(&self) -> Option<i64>
-        ensures { result ≡ self.now.plan }
+        ensures is { result ≡ self.now.plan }
+        ensures sound { Sound self.now }
     {
         self.plan // a copy
     }
 
     pub fn set_plan(&mut self, plan: Option<i64>)
-        ensures { self.new ≡ replanned self.old plan }
+        ensures does { self.new ≡ replanned self.old plan }
+        ensures sound { Sound self.old × Sound self.new }
     {
         self.plan = plan;
     }
 
     fn lacks_commands(&self, batch: Batch) -> bool
-        ensures { result ≡ lacks_commands self.now batch }
+        ensures is { result ≡ lacks_commands self.now batch }
+        ensures sound { Sound self.now }
     {
         batch.len() > self.free_places()
     }
@@ -199,6 +211,7 @@ impl AxisQueue {
     fn room_for(&self, batch: Batch) -> Result<(), Refusal>
         ensures says { result ≡ verdict self.now batch }
         ensures roomy { OnOk result (Roomy self.now (listed batch)) }
+        ensures sound { Sound self.now }
     {
         if self.lacks_commands(batch) {
             return Err(Refusal::Commands);
@@ -215,7 +228,8 @@ impl AxisQueue {
     /// Places one entry, for which there is room.
     fn append(&mut self, entry: Entry)
         requires { Roomy self.old (settled entry ∷ []) }
-        ensures { self.new ≡ extended self.old (settled entry ∷ []) }
+        ensures does { self.new ≡ extended self.old (settled entry ∷ []) }
+        ensures sound { Sound self.new }
     {
         self.commands.push_back(entry.code);
         self.count += 1;

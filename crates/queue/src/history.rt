@@ -4,6 +4,7 @@ ghost use Rattle.queue.specs.Views.{fresh};
 ghost use Rattle.queue.specs.History.{told, after, history, final};
 ghost use Rattle.queue.specs.Account.{Account};
 ghost use Rattle.queue.specs.Samples.{Telling};
+ghost use Rattle.queue.specs.Sound.{Sound};
 
 use crate::axis::{AxisQueue, Head, Refusal};
 use crate::entry::Batch;
@@ -25,6 +26,7 @@ pub fn run(steps: &mut [Step]) -> AxisQueue
     ensures does { result ≡ final fresh steps.old }
     ensures account { Account steps.new result.entries }
     ensures telling { Telling }
+    ensures sound { Sound result }
 {
     let mut queue = AxisQueue::new();
     make(&mut queue, steps);
@@ -35,6 +37,7 @@ pub fn run(steps: &mut [Step]) -> AxisQueue
 fn make(queue: &mut AxisQueue, steps: &mut [Step])
     ensures says { steps.new ≡ history queue.old steps.old }
     ensures does { queue.new ≡ final queue.old steps.old }
+    ensures sound { Sound queue.old → Sound queue.new }
 {
     for step in steps.iter_mut() {
         *step = made(queue, *step);
@@ -45,6 +48,7 @@ fn make(queue: &mut AxisQueue, steps: &mut [Step])
 fn made(queue: &mut AxisQueue, step: Step) -> Step
     ensures says { result ≡ told queue.old step }
     ensures does { queue.new ≡ after queue.old step }
+    ensures sound { Sound queue.new }
 {
     match step {
         Step::Place(batch, _) => Step::Place(batch, queue.place(batch)),

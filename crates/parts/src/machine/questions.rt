@@ -2,6 +2,7 @@
 ghost use Rattle.std.specs.Prelude.{◌≡◌};
 ghost use Rattle.drive.specs.Axes.{index};
 ghost use Rattle.drive.specs.Range.{InRange};
+ghost use Rattle.queue.specs.Sound.{Sound};
 ghost use Rattle.queue.specs.Views.{free};
 ghost use Rattle.model.specs.Machine.{at};
 ghost use Rattle.parts.specs.Views.{machine_view};
@@ -33,7 +34,8 @@ impl<D: Drive> Machine<D> {
     }
 
     pub fn free_places(&self, axis: Axis) -> usize
-        ensures { result ≡ free (at (index axis) (machine_view D.Drive.state self.now)).queue }
+        ensures is { result ≡ free (at (index axis) (machine_view D.Drive.state self.now)).queue }
+        ensures sound { Sound (at (index axis) (machine_view D.Drive.state self.now)).queue }
     {
         self.post(axis).free_places()
     }

@@ -23,7 +23,7 @@ returns g c =
         fits = omega arith;
       }
       | in-Place+in_ok-admits-in-Place w ↦ record {
-        does = did_by (ap (all_parts k) w.place_all.ensures ∙ ap (place_unless o l k (batch_on request)) w.in_ok-admits-in-Place.ensures ∙ placing_is o l last request _ _ _ w.in-Place.is)
+        does = did_by (ap (all_parts k) w.place_each.ensures ∙ ap (place_unless o l k (batch_on request)) w.in_ok-admits-in-Place.ensures ∙ placing_is o l last request _ _ _ w.in-Place.is)
             (record { now = ap left w.self-is; says = ap Ok w.len-is; rows = w.sheet-is; answer = w.answer-is });
         fits = omega arith;
       }

@@ -14,4 +14,4 @@ returns c =
     let code = c.in_ok-code.code in
     let operand : c.if-takes_argument.operand ≡ argument code q.arguments = grind (arith, unwrap_or-slice_get) in
     let head = head_some q.commands q.arguments q.plan q.count code (sym c.front.ensures ∙ c.in_ok-code.was) c.self.invariant in
-    rw (c.if-takes_argument.operand-is, operand, c.len.ensures.is, ← c.self.view_is) (record { says = head.0; ranged = head.1 })
+    rw (c.if-takes_argument.operand-is, operand, c.len.ensures.is, ← c.self.view_is) (record { says = head.0; ranged = head.1; sound = c.self.invariant.sound })

@@ -9,5 +9,5 @@ append-requires-in-Two c =
 
 pub append-requires-in-Two-2 : goal.append-requires-in-Two-2
 append-requires-in-Two-2 c =
-    rw c.append-in-Two.ensures
+    rw c.append-in-Two.ensures.does
     (Roomy-append c.args.self.now (settled c.in-Two.first ∷ []) (settled c.in-Two.second ∷ []) (rw c.in-Two.is at c.in_ok-room_for.ensures.roomy)).1
