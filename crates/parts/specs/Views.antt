@@ -27,12 +27,12 @@ module _ {D S : Type 0} (state : D → S) where
   abbrev pub part : {R : Type 0} → Machine D → R → M.Part S R
   part m r = record { now = machine_view m; tells = r }
 
-  -- One axis's part, as `f` has it, is what each call of a closure does and tells; `calls` relates a machine and an axis to the
-  -- result and to the machine after it.
-  abbrev pub Does : {R : Type 0} → (MutBor (Machine D) → Axis → R → MutBor (Machine D) → Type 0) → (ℕ → M.Machine S → M.Part S R) → Type 0
+  -- One axis's part, as `f` has it, is what each call of a closure does and tells; `calls` relates a machine, an axis and a place for
+  -- what is told to the machine and the place after it.
+  abbrev pub Does : {R : Type 0} → (MutBor (Machine D) → Axis → MutBor R → Unit {0} → MutBor (Machine D) → MutBor R → Type 0) → (ℕ → M.Machine S → M.Part S R) → Type 0
   Does {R} calls f =
-      (before : MutBor (Machine D)) (axis : Axis) (r : R) (after : MutBor (Machine D)) → calls before axis r after →
-      part after.now r ≡ f (index axis) (machine_view before.now)
+      (before : MutBor (Machine D)) (axis : Axis) (place : MutBor R) (done : Unit {0}) (after : MutBor (Machine D)) (told : MutBor R) → calls before axis place done after told →
+      part after.now told.now ≡ f (index axis) (machine_view before.now)
 
 -- One axis's part of a request that clears.
 unfoldable pub cleared_by : {S : Type 0} → Ops S → Request → Bool → ℕ → M.Machine S → M.Part S Row

@@ -16,7 +16,7 @@ use model::row::Row;
 impl<D: Drive> Machine<D> {
     /// Does one axis's part after the other, and writes down what each tells.
     /// By a rule of the project the rows are written in place: it fills the lent array, and gives back none.
-    fn each_axis<R: Copy, F: Fn(&mut Machine<D>, Axis) -> R>(
+    fn each_axis<R: Copy, F: Fn(&mut Machine<D>, Axis, &mut R)>(
         &mut self,
         told: &mut [R; AXES],
         act: F,
@@ -25,7 +25,7 @@ impl<D: Drive> Machine<D> {
         ensures { (f : ℕ → M.Machine D.Drive.State → M.Part D.Drive.State R) → Does D.Drive.state (F.post act) f → part D.Drive.state self.new told.new ≡ each axes f (machine_view D.Drive.state self.old) }
     {
         for axis in Axis::ALL {
-            told[axis.index()] = act(self, axis);
+            act(self, axis, &mut told[axis.index()]);
         }
     }
 
@@ -46,7 +46,7 @@ impl<D: Drive> Machine<D> {
     pub fn judge_each(&mut self, word: u16, sheet: &mut [Row; AXES])
         ensures { part D.Drive.state self.new sheet.new ≡ each axes (judged D.Drive.ops word) (machine_view D.Drive.state self.old) }
     {
-        self.each_axis(sheet, |machine, axis| machine.judge(axis, word));
+        self.each_axis(sheet, |machine, axis, row| *row = machine.judge(axis, word));
     }
 
     /// The step of each axis, under the sampled word.
@@ -66,7 +66,7 @@ impl<D: Drive> Machine<D> {
     pub fn turn_each(&mut self, word: u16, sheet: &mut [Row; AXES])
         ensures { part D.Drive.state self.new sheet.new ≡ each axes (turn D.Drive.ops word) (machine_view D.Drive.state self.old) }
     {
-        self.each_axis(sheet, |machine, axis| machine.turn(axis, word));
+        self.each_axis(sheet, |machine, axis, row| *row = machine.turn(axis, word));
     }
 
     /// What the request places, on each axis.
@@ -89,7 +89,7 @@ impl<D: Drive> Machine<D> {
     {
         self.each_axis(
             sheet,
-            |machine, axis| machine.place(axis, request.batch(axis)),
+            |machine, axis, row| *row = machine.place(axis, request.batch(axis)),
         );
     }
 
@@ -118,7 +118,7 @@ impl<D: Drive> Machine<D> {
     {
         self.each_axis(
             sheet,
-            |machine, axis| machine.clear_if(axis, request.clears(axis), halt),
+            |machine, axis, row| *row = machine.clear_if(axis, request.clears(axis), halt),
         );
     }
 
@@ -127,7 +127,10 @@ impl<D: Drive> Machine<D> {
         ensures { part D.Drive.state self.new result ≡ each axes (clear D.Drive.ops true) (machine_view D.Drive.state self.old) }
     {
         let mut dropped = [0; AXES];
-        self.each_axis(&mut dropped, |machine, axis| machine.clear(axis, true));
+        self.each_axis(
+            &mut dropped,
+            |machine, axis, count| *count = machine.clear(axis, true),
+        );
         dropped
     }
 }

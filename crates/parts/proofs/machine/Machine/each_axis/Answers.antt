@@ -12,7 +12,7 @@ pub loop-axis-preserved : goal.loop-axis-preserved
 loop-axis-preserved g c =
     let h : c.loop-axis.axis-index < axes = omega (arith, axes_is) in
     let room : c.loop-axis.axis-index < length c.loop-axis.told = omega arith in (
-      λ f does. each_more f _ _ _ _ _ _ c.loop-axis.told (index_of _ _ h) c.index.ensures.value room (c.loop-axis.invariant.0 f does) (does _ _ _ _ c.act.ensures),
+      λ f does. each_more f _ _ _ _ _ _ c.loop-axis.told (index_of _ _ h) c.index.ensures.value room (c.loop-axis.invariant.0 f does) (does _ _ _ _ _ _ c.act.ensures),
       simp length-set c.loop-axis.invariant.1,
     )
 
