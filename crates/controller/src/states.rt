@@ -1,5 +1,7 @@
 //! A controller's two states. Arming turns a parked controller into a live one, and parking turns it back.
 //! By a rule of the project they are two types, and neither is copied: each of these calls uses up what it turns.
+ghost use Rattle.std.specs.Prelude.{◌≤◌, length};
+
 use crate::setup::Setup;
 use answers::ErrorRecord;
 use command::request::Selection;
@@ -28,4 +30,5 @@ pub struct Live<D> {
     /// The latest sample.
     pub(crate) sampled: u16,
     pub(crate) errors: ErrorRecord,
+    pub ghost few_bytes: { length errors ≤ 160 },
 }

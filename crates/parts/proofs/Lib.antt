@@ -1,3 +1,4 @@
 mod Branches
 mod Loops
 mod Barring
+mod Bounds

@@ -1,4 +1,5 @@
 pub mod Kinds
+pub mod Bounds
 pub mod Views
 pub mod Turns
 pub mod Conditions

@@ -22,16 +22,20 @@ pub struct Post {
 }
 
 impl Model for Post {
+    ghost use Rattle.queue.specs.Sound.{Sound};
     ghost use Rattle.model.specs.Machine as M;
 
     ghost Value = { M.Post };
 
     ghost view = { λ p. record { queue = p.queue; kills = p.kills; killed = p.killed } };
+
+    ghost invariant = { λ p. Sound p.queue };
 }
 
 impl Post {
     pub fn new() -> Post
-        ensures { result ≡ blank }
+        ensures is { result ≡ blank }
+        ensures sound { Sound result.queue }
     {
         Post {
             queue: AxisQueue::new(),
@@ -62,40 +66,46 @@ impl Post {
 
     /// Killed no longer.
     pub fn free(&mut self)
-        ensures { self.new ≡ marked false self.old }
+        ensures does { self.new ≡ marked false self.old }
+        ensures sound { Sound self.old.queue × Sound self.new.queue }
     {
         self.killed = false;
     }
 
     /// For arming under a word: nothing waits, entries are counted from the start again, and the axis is killed where the word hits it.
     pub fn arm(&mut self, word: u16)
-        ensures { self.new ≡ armed word self.old }
+        ensures does { self.new ≡ armed word self.old }
+        ensures sound { Sound self.old.queue × Sound self.new.queue }
     {
         self.queue.rearm();
         self.killed = self.kills.is_hit(word);
     }
 
     pub fn kills(&self) -> KillInputs
-        ensures { result ≡ self.now.kills }
+        ensures is { result ≡ self.now.kills }
+        ensures sound { Sound self.now.queue }
     {
         self.kills
     }
 
     pub fn set_kills(&mut self, kills: KillInputs)
-        ensures { self.new ≡ rekilled self.old kills }
+        ensures does { self.new ≡ rekilled self.old kills }
+        ensures sound { Sound self.old.queue × Sound self.new.queue }
     {
         self.kills = kills;
     }
 
     pub fn is_killed(&self) -> bool
-        ensures { result ≡ self.now.killed }
+        ensures is { result ≡ self.now.killed }
+        ensures sound { Sound self.now.queue }
     {
         self.killed
     }
 
     /// Whether a kill input stands at its kill level in the word.
     pub fn is_hit(&self, word: u16) -> bool
-        ensures { result ≡ hit self.now.kills word }
+        ensures is { result ≡ hit self.now.kills word }
+        ensures sound { Sound self.now.queue }
     {
         self.kills.is_hit(word)
     }
@@ -104,12 +114,14 @@ impl Post {
     pub fn head(&self) -> Option<Head>
         ensures says { result ≡ head_of self.now.queue }
         ensures ranged { IfSome result (λ h. InRange h.entry.operand) }
+        ensures sound { Sound self.now.queue }
     {
         self.queue.head()
     }
 
     pub fn plan(&self) -> Option<i64>
-        ensures { result ≡ self.now.queue.plan }
+        ensures is { result ≡ self.now.queue.plan }
+        ensures sound { Sound self.now.queue }
     {
         self.queue.plan()
     }
@@ -123,7 +135,8 @@ impl Post {
 
     /// The head leaves the queue, and the plan becomes `plan`.
     pub fn step(&mut self, plan: Option<i64>)
-        ensures { self.new ≡ with_queue self.old (replanned (taken self.old.queue) plan) }
+        ensures does { self.new ≡ with_queue self.old (replanned (taken self.old.queue) plan) }
+        ensures sound { Sound self.old.queue × Sound self.new.queue }
     {
         let _ = self.queue.take();
         self.queue.set_plan(plan);
@@ -131,19 +144,22 @@ impl Post {
 
     /// Places the batch, where it finds room.
     pub fn place(&mut self, batch: Batch)
-        ensures { self.new ≡ with_queue self.old (placed self.old.queue batch) }
+        ensures does { self.new ≡ with_queue self.old (placed self.old.queue batch) }
+        ensures sound { Sound self.old.queue × Sound self.new.queue }
     {
         let _ = self.queue.place(batch);
     }
 
     pub fn lacks_places(&self, batch: Batch) -> bool
-        ensures { result ≡ lacks_places self.now.queue batch }
+        ensures is { result ≡ lacks_places self.now.queue batch }
+        ensures sound { Sound self.now.queue }
     {
         self.queue.lacks_places(batch)
     }
 
     pub fn lacks_count(&self, batch: Batch) -> bool
-        ensures { result ≡ lacks_count self.now.queue batch }
+        ensures is { result ≡ lacks_count self.now.queue batch }
+        ensures sound { Sound self.now.queue }
     {
         self.queue.lacks_count(batch)
     }

@@ -1,9 +1,12 @@
 use Rattle.std.proofs.Common.{set, sym, ap, ◌∙◌, arith}
 use Rattle.std.proofs.lemmas.List.Edits.{map_over_more}
 use Rattle.model.specs.Controller.{armed}
+use Rattle.parts.proofs.Bounds.{all_put}
 use Rattle.parts.proofs.machine.Machine.arm.Goals as goal
 
 pub loop-post-preserved : goal.loop-post-preserved
-loop-post-preserved g c =
-    ap (set c.loop-post.post-items c.loop-post.post-index) (c.arm.ensures ∙ ap (armed c.args.word) (sym c.post-item.is))
-    ∙ map_over_more (armed c.args.word) c.args.self.now.posts _ _ c.post-item.result (omega arith) c.loop-post.invariant c.post-item.is
+loop-post-preserved g c = (
+  ap (set c.loop-post.post-items c.loop-post.post-index) (c.arm.ensures.does ∙ ap (armed c.args.word) (sym c.post-item.is))
+  ∙ map_over_more (armed c.args.word) c.args.self.now.posts _ _ c.post-item.result (omega arith) c.loop-post.invariant.0 c.post-item.is,
+  all_put _ c.loop-post.post-index _ c.loop-post.invariant.1 c.arm.ensures.sound.1,
+)
