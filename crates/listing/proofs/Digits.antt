@@ -16,7 +16,7 @@ word_small (suc (suc (suc zero))) h = omega arith
 word_small (suc (suc (suc (suc zero)))) h = omega arith
 word_small (suc (suc (suc (suc (suc n))))) h = absurd (omega arith)
 
-abbrev going_on : Option ℕ → List ℕ → Option ℕ
+abbrev pub going_on : Option ℕ → List ℕ → Option ℕ
 going_on None bs = None
 going_on (Some n) bs = following n bs
 

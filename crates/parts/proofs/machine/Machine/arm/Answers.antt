@@ -7,6 +7,6 @@ use Rattle.parts.proofs.machine.Machine.arm.Goals as goal
 pub loop-post-preserved : goal.loop-post-preserved
 loop-post-preserved g c = (
   ap (set c.loop-post.post-items c.loop-post.post-index) (c.arm.ensures.does ∙ ap (armed c.args.word) (sym c.post-item.is))
-  ∙ map_over_more (armed c.args.word) c.args.self.now.posts _ _ c.post-item.result (omega arith) c.loop-post.invariant.0 c.post-item.is,
+      ∙ map_over_more (armed c.args.word) c.args.self.now.posts _ _ c.post-item.result (omega arith) c.loop-post.invariant.0 c.post-item.is,
   all_put _ c.loop-post.post-index _ c.loop-post.invariant.1 c.arm.ensures.sound.1,
 )
