@@ -18,8 +18,10 @@ use Rattle.model.specs.declared.refusal.Refusal.{Refusal}
 use Rattle.model.specs.declared.refusal.Refusal.TheVariants.{Sheet, Answer, Readings}
 use Rattle.model.specs.Rows.{nothing}
 use Rattle.model.specs.Machine.{each, judged, turn, clearing}
-use Rattle.model.specs.Controller.{Controller, Live, After, Outcome, untaken, done, told, dropped_all, no_rows, live, addressed, obey, place_unless, barring, conditions, command, sample, step, refused, after, all_parts, sampling, advancing, commanded, reading, unless_short, call}
-use Rattle.parts.specs.Views.{cleared_by}
+use Rattle.command.specs.declared.request.Selection.{Selection}
+use Rattle.model.specs.Controller.{Controller, Setup, Live, After, Outcome, untaken, done, told, dropped_all, no_rows, live, addressed, obey, place_unless, barring, conditions, command, sample, step, refused, after, all_parts, sampling, advancing, commanded, reading, unless_short, call}
+use Rattle.parts.specs.declared.machine.Machine.{Machine}
+use Rattle.parts.specs.Views.{machine_view, cleared_by}
 use Rattle.controller.specs.Replies.{answered, sheet_after, block_after, Took, Did}
 
 -- ---- what is shown of one is shown of the other
@@ -30,6 +32,13 @@ took_by {S} {a} {b} {c} {r} {sheet} {sheet'} e t = let P : After S → Type 0 = 
 pub did_by : {S : Type 0} {a b : After S} {c : Controller S} {r : Result ℕ Refusal} {sheet sheet' : List Row} {block block' : List ℕ} → a ≡ b → Did a c r sheet sheet' block block' → Did b c r sheet sheet' block block'
 did_by {S} {a} {b} {c} {r} {sheet} {sheet'} {block} {block'} e d =
     let P : After S → Type 0 = λ x. Did x c r sheet sheet' block block' in subst P e d
+
+-- ---- what is shown of a live controller taken apart, once `last` is its last axis
+
+module _ {A D S : Type 0} (state : D → S) (last : Axis) where
+  abbrev pub shown_apart : A × (Machine D × (Setup × (Selection × (Axis × (ℕ × (List ℕ × Unit {0})))))) → Controller S
+  shown_apart (a, (m, (u, (s, (l, (w, (es, t))))))) =
+      live (record { machine = machine_view state m; setup = u; selection = s; last = last; sampled = w; errors = es })
 
 -- ---- the front of a block is lent, and the rest stays
 

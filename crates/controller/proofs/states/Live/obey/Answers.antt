@@ -2,9 +2,8 @@ use Rattle.std.proofs.Common.{[], ◌∷◌, ◌++◌, Ok, sym, ap, ◌∙◌, l
 use Rattle.text.proofs.Storing.{over_fits}
 use Rattle.command.specs.Requests.{batch_on}
 use Rattle.model.specs.Controller.{live, erring, addressed, all_parts, place_unless, obey}
-use Rattle.controller.specs.declared.states.Live.{Live}
 use Rattle.controller.specs.Views.{live_view}
-use Rattle.controller.proofs.Calls.{did_by, blank_is, placing_is, clearing_is}
+use Rattle.controller.proofs.Calls.{did_by, shown_apart, blank_is, placing_is, clearing_is}
 use Rattle.controller.proofs.Shorts.{figures_short, position_small, places_small}
 use Rattle.controller.proofs.states.Live.obey.Goals as goal
 use Rattle.controller.proofs.states.Live.obey.Goals.{in-Select, in-Place+in_ok-admits-in-Place, in-Clear, in-Positions, in-Places, in-ErrorRecord}
@@ -16,7 +15,7 @@ returns g c =
     let last = c.args.command.last in
     let request = c.args.command.request in
     let k = addressed l l.selection last in
-    let left = λ (s : Live g.row.D.Denot). live (addressed (live_view g.D.Drive.state s) s.selection last) in
+    let left = shown_apart g.D.Drive.state last in
     elim c.match-request.branch [
       | in-Select w ↦ record {
         does = did_by (ap (obey o l last) (sym w.in-Select.is)) (record { now = ap left w.self-is; says = ap Ok w.len-is; rows = w.sheet-is ∙ blank_is; answer = w.answer-is });
