@@ -1,5 +1,5 @@
 -- Codes paired with their arguments, and how the two rings stand to what waits.
-use Rattle.std.proofs.Common.{◌≡◌, ℕ, ◌+◌, ◌-◌, Bool, true, false, cond, ◌&&◌, List, [], ◌∷◌, ◌++◌, map, length, get_or, drop, ℤ, pos, Some, None, Option, slice_get, unwrap_or, sym, refl, ap, ◌∙◌, arith}
+use Rattle.std.proofs.Common.{◌≡◌, ℕ, ◌+◌, ◌-◌, Bool, true, false, cond, ◌&&◌, List, [], ◌∷◌, ◌++◌, map, length, get_or, drop, ℤ, pos, Some, None, Option, slice_get, unwrap_or, sym, refl, ap, ap₂, ◌∙◌, arith}
 use Rattle.std.proofs.lemmas.List.{length-map, length-append, length-drop, map-append}
 use Rattle.std.proofs.lemmas.Int.{ints}
 use Rattle.std.proofs.lemmas.Bool.Decides.{nat_tests}
@@ -50,12 +50,18 @@ pub all_in_range-append : (ns ms : List ℤ) → all_in_range (ns ++ ms) ≡ (al
 all_in_range-append [] ms = refl
 all_in_range-append (n ∷ ns) ms = let e = all_in_range-append ns ms in grind arith
 
-pub Sound-extended : (v : View) (es : List Entry) → Sound v → Roomy v es → Sound (extended v es)
-Sound-extended v es s r =
+settled_twice : (t : Bool) (z : ℤ) → cond t (cond t z (pos 0)) (pos 0) ≡ cond t z (pos 0)
+settled_twice true z = refl
+settled_twice false z = refl
+
+-- An entry more, as it waits.
+pub Sound-extended : (v : View) (e : Entry) → Sound v → Roomy v (settled e ∷ []) → Sound (extended v (settled e ∷ []))
+Sound-extended v e s r =
     record {
       few_entries = simp length-append r.command_room;
       few_arguments = simp (map-append, taking-append) r.argument_room;
       in_place = simp (map-append, all_in_range-append) (let a = s.in_place in let b = r.in_place in grind arith);
+      settled_operands = simp map-append (ap₂ (λ ms ns. ms ++ ns) s.settled_operands (ap (λ n. n ∷ []) (settled_twice (takes e.code) e.operand)));
       waiting_counted = simp length-append (let a = s.waiting_counted in omega arith);
       count_bounded = r.count_room;
     }
@@ -97,6 +103,7 @@ Sound-taken v s = by v.entries s
           few_entries = omega (arith, t.few_entries);
           few_arguments = omega (arith, t.few_arguments);
           in_place = grind arith;
+          settled_operands = ap (drop 1) t.settled_operands;
           waiting_counted = omega (arith, t.waiting_counted);
           count_bounded = t.count_bounded;
         }
@@ -120,19 +127,21 @@ added_more cs zs p n e more t r =
     let one_each = t.one_each in
     (is, record { one_each = grind (arith, taking-append, length-append); sound = rw is (Sound-extended _ _ t.sound r) })
 
--- The first entry gone, of a code that takes an argument.
-pub Tied-past : (cs ds : List Code) (zs ys : List ℤ) (p : Option ℤ) (n : ℕ) (v : View) (h : Head) → ds ≡ drop 1 cs → ys ≡ drop 1 zs
-    → seen cs zs p n ≡ v → Some h ≡ head_of v → takes h.entry.code ≡ true → Tied cs zs p n → Tied ds ys p n
-Tied-past cs ds zs ys p n v h cs-is zs-is v-is h-is more t = rw (cs-is, zs-is) (by cs (h-is ∙ ap head_of (sym v-is)) t)
+-- The first entry gone, and with it its argument, if its code takes one.
+argument_gone : (t : Bool) (zs : List ℤ) (n : ℕ) → length zs ≡ cond t 1 0 + n → length (cond t (drop 1 zs) zs) ≡ n
+argument_gone true zs n long = simp length-drop (omega arith)
+argument_gone false zs n long = omega arith
+
+pub Tied-past : (cs ds : List Code) (zs ys : List ℤ) (p : Option ℤ) (n : ℕ) (v : View) (h : Head) → ds ≡ drop 1 cs
+    → ys ≡ cond (takes h.entry.code) (drop 1 zs) zs → seen cs zs p n ≡ v → Some h ≡ head_of v → Tied cs zs p n → Tied ds ys p n
+Tied-past cs ds zs ys p n v h cs-is zs-is v-is h-is t = rw (cs-is, zs-is) (by cs (h-is ∙ ap head_of (sym v-is)) t)
   where
-    by : (cs : List Code) → Some h ≡ head_of (seen cs zs p n) → Tied cs zs p n → Tied (drop 1 cs) (drop 1 zs) p n
+    by : (cs : List Code) → Some h ≡ head_of (seen cs zs p n) → Tied cs zs p n
+        → Tied (drop 1 cs) (cond (takes h.entry.code) (drop 1 zs) zs) p n
     by [] is t = cc
     by (c ∷ cs) is t =
         let same = ap (λ o. (unwrap_or o h).entry.code) is in
-        let here : takes c ≡ true = rw (← same) more in
-        let one_each = t.one_each in
-        let past : seen cs (drop 1 zs) p n ≡ taken (seen (c ∷ cs) zs p n) = rw here in
-        record { one_each = grind (arith, length-drop); sound = rw past (Sound-taken _ t.sound) }
+        rw same (record { one_each = argument_gone (takes c) zs _ t.one_each; sound = Sound-taken _ t.sound })
 
 -- The argument of a code at the head: the next of the arguments, or 0 where the code takes none.
 abbrev pub argument : Code → List ℤ → ℤ

@@ -1,7 +1,7 @@
 -- What always holds of an axis's queue.
-use Rattle.std.specs.Prelude.{◌≡◌, ℕ, ◌≤◌, true, List, length, ℤ, Option}
+use Rattle.std.specs.Prelude.{◌≡◌, ℕ, ◌≤◌, true, List, map, length, ℤ, Option}
 use Rattle.queue.specs.declared.entry.Code.{Code}
-use Rattle.queue.specs.Entries.{taking, argument_count, ranged}
+use Rattle.queue.specs.Entries.{settled, taking, argument_count, ranged}
 use Rattle.queue.specs.Views.{View, seen, command_places, argument_places, most_entries}
 
 -- Of what its user sees.
@@ -10,6 +10,8 @@ pub record Sound (v : View) : Type 0 where
   pub few_arguments : argument_count v.entries ≤ argument_places
   -- the waiting operands are counts
   pub in_place : ranged v.entries ≡ true
+  -- and 0 where a code takes no argument
+  pub settled_operands : map (λ e. (settled e).operand) v.entries ≡ map (λ e. e.operand) v.entries
   -- what waits was taken in since arming
   pub waiting_counted : length v.entries ≤ v.count
   pub count_bounded : v.count ≤ most_entries
