@@ -3,7 +3,7 @@ ghost use Rattle.std.specs.Prelude.{◌≡◌, replicate, None};
 ghost use Rattle.drive.specs.declared.axis.Axis.TheVariants as Axes;
 ghost use Rattle.drive.specs.Axes.{axes};
 ghost use Rattle.model.specs.Controller.{units_set};
-ghost use Rattle.controller.specs.Setups.{selecting};
+ghost use Rattle.controller.specs.Setups.{selecting, FactorsBounded};
 
 use command::request::Settings;
 use drive::axis::{AXES, Axis};
@@ -19,16 +19,20 @@ pub(crate) struct Setup {
 
 impl Model for Setup {
     ghost use Rattle.model.specs.Controller as C;
+    ghost use Rattle.controller.specs.Setups.{FactorsBounded};
 
     ghost Value = { C.Setup };
 
     ghost view = { λ u. record { settings = u.settings; axis = u.axis } };
+
+    ghost invariant = { λ u. FactorsBounded u.settings };
 }
 
 impl Setup {
     /// All units off, and Set at X.
     pub(crate) fn new() -> Setup
-        ensures { result ≡ record { settings = replicate axes (record { units = None }); axis = Axes.X } }
+        ensures is { result ≡ record { settings = replicate axes (record { units = None }); axis = Axes.X } }
+        ensures bounded { FactorsBounded result.settings }
     {
         Setup {
             settings: [Settings { units: None }; AXES],
@@ -49,14 +53,16 @@ impl Setup {
     }
 
     pub(crate) fn select(&mut self, axis: Axis)
-        ensures { self.new ≡ selecting self.old axis }
+        ensures does { self.new ≡ selecting self.old axis }
+        ensures bounded { FactorsBounded self.new.settings }
     {
         self.axis = axis;
     }
 
     /// Units on with the factor, or off, on Set's axis.
     pub(crate) fn set_units(&mut self, units: Option<Decimal>)
-        ensures { self.new ≡ units_set self.old units }
+        ensures does { self.new ≡ units_set self.old units }
+        ensures bounded { FactorsBounded self.new.settings }
     {
         self.settings[self.axis.index()] = Settings { units };
     }

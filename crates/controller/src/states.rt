@@ -1,6 +1,7 @@
 //! A controller's two states. Arming turns a parked controller into a live one, and parking turns it back.
 //! By a rule of the project they are two types, and neither is copied: each of these calls uses up what it turns.
 ghost use Rattle.std.specs.Prelude.{◌≤◌, length};
+ghost use Rattle.controller.specs.Setups.{FactorsBounded};
 
 use crate::setup::Setup;
 use answers::ErrorRecord;
@@ -16,6 +17,7 @@ pub struct Parked<D> {
     pub(crate) setup: Setup,
     /// How many entries of each axis the last park dropped.
     pub(crate) dropped: [usize; AXES],
+    pub ghost bounded: { FactorsBounded setup.settings },
 }
 
 /// Takes commands, samples and steps.
@@ -30,5 +32,6 @@ pub struct Live<D> {
     /// The latest sample.
     pub(crate) sampled: u16,
     pub(crate) errors: ErrorRecord,
+    pub ghost bounded: { FactorsBounded setup.settings },
     pub ghost few_bytes: { length errors ≤ 160 },
 }

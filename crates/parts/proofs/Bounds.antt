@@ -1,12 +1,10 @@
--- Each axis's queue stays sound.
-use Rattle.std.proofs.Common.{ℕ, zero, suc, List, [], ◌∷◌, set}
-use Rattle.queue.specs.Sound.{Sound}
-use Rattle.model.specs.Machine.{Post}
-use Rattle.parts.specs.Bounds.{AllSound}
+-- What holds at each index still holds when one element is replaced.
+use Rattle.std.proofs.Common.{ℕ, zero, suc, List, [], ◌∷◌, get_or, set}
 
-pub all_put : (posts : List Post) (i : ℕ) (p : Post) → AllSound posts → Sound p.queue → AllSound (set posts i p)
-all_put [] i p all here k = all k
-all_put (q ∷ qs) zero p all here zero = here
-all_put (q ∷ qs) zero p all here (suc k) = all (suc k)
-all_put (q ∷ qs) (suc i) p all here zero = all zero
-all_put (q ∷ qs) (suc i) p all here (suc k) = all_put qs i p (λ j. all (suc j)) here k
+module _ {A : Type 0} (P : A → Type 0) (d : A) where
+  pub each_put : (xs : List A) (i : ℕ) (x : A) → ((k : ℕ) → P (get_or xs k d)) → P x → (k : ℕ) → P (get_or (set xs i x) k d)
+  each_put [] i x all here k = all k
+  each_put (y ∷ ys) zero x all here zero = here
+  each_put (y ∷ ys) zero x all here (suc k) = all (suc k)
+  each_put (y ∷ ys) (suc i) x all here zero = all zero
+  each_put (y ∷ ys) (suc i) x all here (suc k) = each_put ys i x (λ j. all (suc j)) here k

@@ -1,4 +1,4 @@
 mod Branches
 mod Loops
 mod Barring
-mod Bounds
+pub mod Bounds

@@ -8,6 +8,18 @@ use Rattle.controller.proofs.Shorts.{figures_short, position_small, places_small
 use Rattle.controller.proofs.states.Live.obey.Goals as goal
 use Rattle.controller.proofs.states.Live.obey.Goals.{in-Select, in-Place+in_ok-admits-in-Place, in-Clear, in-Positions, in-Places, in-ErrorRecord}
 
+pub invariant_of-self-clause-bounded : goal.invariant_of-self-clause-bounded
+invariant_of-self-clause-bounded g c =
+    let bounded = c.args.self.now.bounded in
+    elim c.match-request.branch [
+      | in-Select w ↦ rw w.self-is bounded
+      | in-Place+in_ok-admits-in-Place w ↦ rw w.self-is bounded
+      | in-Clear w ↦ rw w.self-is w.clear.new.self.bounded
+      | in-Positions w ↦ rw w.self-is bounded
+      | in-Places w ↦ rw w.self-is bounded
+      | in-ErrorRecord w ↦ rw w.self-is bounded
+    ]
+
 pub returns : goal.returns
 returns g c =
     let o = g.D.Drive.ops in
