@@ -54,14 +54,18 @@ settled_twice : (t : Bool) (z : ℤ) → cond t (cond t z (pos 0)) (pos 0) ≡ c
 settled_twice true z = refl
 settled_twice false z = refl
 
--- An entry more, as it waits.
-pub Sound-extended : (v : View) (e : Entry) → Sound v → Roomy v (settled e ∷ []) → Sound (extended v (settled e ∷ []))
-Sound-extended v e s r =
+settled_again : (e : Entry) → map (λ f. (settled f).operand) (settled e ∷ []) ≡ map (λ f. f.operand) (settled e ∷ [])
+settled_again e = ap (λ n. n ∷ []) (settled_twice (takes e.code) e.operand)
+
+-- More entries, as they wait.
+pub Sound-extended : (v : View) (es : List Entry) → Sound v → Roomy v es
+    → map (λ e. (settled e).operand) es ≡ map (λ e. e.operand) es → Sound (extended v es)
+Sound-extended v es s r wait =
     record {
       few_entries = simp length-append r.command_room;
       few_arguments = simp (map-append, taking-append) r.argument_room;
       in_place = simp (map-append, all_in_range-append) (let a = s.in_place in let b = r.in_place in grind arith);
-      settled_operands = simp map-append (ap₂ (λ ms ns. ms ++ ns) s.settled_operands (ap (λ n. n ∷ []) (settled_twice (takes e.code) e.operand)));
+      settled_operands = simp map-append (ap₂ (λ ms ns. ms ++ ns) s.settled_operands wait);
       waiting_counted = simp length-append (let a = s.waiting_counted in omega arith);
       count_bounded = r.count_room;
     }
@@ -115,7 +119,7 @@ pub added_plain : (cs : List Code) (zs : List ℤ) (p : Option ℤ) (n : ℕ) (e
 added_plain cs zs p n e plain t r =
     let is : seen (cs ++ e.code ∷ []) zs p (n + 1) ≡ extended (seen cs zs p n) (settled e ∷ []) = rw (paired_plain cs zs e.code plain, plain) in
     let one_each = t.one_each in
-    (is, record { one_each = grind (arith, taking-append); sound = rw is (Sound-extended _ _ t.sound r) })
+    (is, record { one_each = grind (arith, taking-append); sound = rw is (Sound-extended _ _ t.sound r (settled_again e)) })
 
 pub added_more : (cs : List Code) (zs : List ℤ) (p : Option ℤ) (n : ℕ) (e : Entry) → takes e.code ≡ true → Tied cs zs p n
     → Roomy (seen cs zs p n) (settled e ∷ [])
@@ -125,7 +129,7 @@ added_more cs zs p n e more t r =
     let is : seen (cs ++ e.code ∷ []) (zs ++ e.operand ∷ []) p (n + 1) ≡ extended (seen cs zs p n) (settled e ∷ [])
     = rw (paired_more cs zs e.code e.operand more t.one_each, more) in
     let one_each = t.one_each in
-    (is, record { one_each = grind (arith, taking-append, length-append); sound = rw is (Sound-extended _ _ t.sound r) })
+    (is, record { one_each = grind (arith, taking-append, length-append); sound = rw is (Sound-extended _ _ t.sound r (settled_again e)) })
 
 -- The first entry gone, and with it its argument, if its code takes one.
 argument_gone : (t : Bool) (zs : List ℤ) (n : ℕ) → length zs ≡ cond t 1 0 + n → length (cond t (drop 1 zs) zs) ≡ n
