@@ -5,7 +5,10 @@ use drive::health::Health;
 use drive::motion::{Decline, Drive, halt_all};
 use drives::counting::Counting;
 use drives::ratio::Ratio;
-use drives::reporting::Reporting;
+use drives::reporting::{Link, Reporting};
+use motors::bank::Bank;
+use motors::motor::Motor;
+use motors::ranged::Ranged;
 
 const SILENT: Health = Health { bits: 0 };
 
@@ -62,6 +65,30 @@ fn a_down_axis_comes_up_and_goes_on(rt: HostRuntime) {
     assert!(rt; drive.begin(Axis::X, 5).is_ok());
     assert!(rt; drive.begin(Axis::X, 2_147_483_647) == Err(Decline::Reach));
     assert!(rt; drive.target(Axis::X) == 5);
+}
+
+/// A bank of one's own: each axis stands at 3 and is bound for it, and X is down.
+fn bank() -> Bank<Link> {
+    let mut motors = [Motor::still(Ranged::near(3), Link { down: false }); AXES];
+    motors[0].own = Link { down: true };
+    Bank::new(motors)
+}
+
+#[test]
+fn a_bank_whose_rule_is_steady_is_a_drive(rt: HostRuntime) {
+    let mut drive = bank();
+    assert!(rt; Drive::least(&drive, Axis::Y) == -2_147_483_646);
+    assert!(rt; Drive::greatest(&drive, Axis::Y) == 2_147_483_646);
+    assert!(rt; Drive::is_down(&drive, Axis::X) && !Drive::is_down(&drive, Axis::Y));
+    assert!(rt; Drive::begin(&mut drive, Axis::X, 5) == Err(Decline::Down));
+    assert!(rt; Drive::begin(&mut drive, Axis::Y, 2_147_483_647) == Err(Decline::Reach));
+    assert!(rt; Drive::begin(&mut drive, Axis::Y, 9).is_ok());
+    assert!(rt; Drive::target(&drive, Axis::Y) == 9 && Drive::target(&drive, Axis::X) == 3);
+    Drive::advance(&mut drive, &[3, 7], Health { bits: 3 });
+    assert!(rt; Drive::position(&drive, Axis::Y) == 7 && !Drive::is_down(&drive, Axis::X));
+    Drive::halt(&mut drive, Axis::Y);
+    assert!(rt; Drive::target(&drive, Axis::Y) == 7);
+    assert!(rt; Ratio::new(drive, 2).position(Axis::Y) == 3);
 }
 
 /// Fifty steps of the counting drive to one count of the top, by 10 and then by 5.

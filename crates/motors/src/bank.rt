@@ -1,4 +1,4 @@
-//! A bank of motors, whatever their rule.
+//! A bank of motors, whatever their rule; and a drive, where the rule keeps the laws.
 ghost use Rattle.std.specs.Prelude.{◌≡◌, length};
 ghost use Rattle.drive.specs.Axes.{axes};
 
@@ -7,6 +7,8 @@ use crate::ranged::Ranged;
 use crate::rule::{Moves, Steady};
 use drive::axis::{AXES, Axis};
 use drive::health::Health;
+use drive::motion::{Decline, Drive};
+use drive::range::{BOTTOM, TOP};
 
 /// A motor for each axis.
 #[derive(Drop)]
@@ -79,5 +81,53 @@ impl<A: Steady> Bank<A> {
         ensures { result ≡ (banked A.Moves.rule).down self.now (index axis) }
     {
         self.motors[axis.index()].own.is_down()
+    }
+}
+
+/// What a bank has by a method of its own, it does as a drive by that method.
+impl<A: Steady> Drive for Bank<A> {
+    ghost use Rattle.motors.specs.Banks.{banked};
+    ghost use Rattle.motors.specs.Laws.{banked_keeps};
+
+    ghost State = { Self };
+
+    ghost state = { λ bank. bank };
+
+    ghost ops = { banked A.Moves.rule };
+
+    ghost keeps = { banked_keeps A.Moves.rule A.Steady.lawful };
+
+    fn position(&self, axis: Axis) -> i64 {
+        self.position(axis)
+    }
+
+    fn target(&self, axis: Axis) -> i64 {
+        self.target(axis)
+    }
+
+    fn least(&self, _axis: Axis) -> i64 {
+        BOTTOM
+    }
+
+    fn greatest(&self, _axis: Axis) -> i64 {
+        TOP
+    }
+
+    fn is_down(&self, axis: Axis) -> bool {
+        self.is_down(axis)
+    }
+
+    fn begin(&mut self, axis: Axis, target: i64) -> Result<(), Decline> {
+        self.admits(axis, target)?;
+        self.begin(axis, target);
+        Ok(())
+    }
+
+    fn halt(&mut self, axis: Axis) {
+        self.halt(axis);
+    }
+
+    fn advance(&mut self, readings: &[i64], health: Health) {
+        self.advance(readings, health);
     }
 }
